@@ -1,0 +1,14 @@
+pub mod Choice
+pub mod Bytes
+pub mod Utf8
+pub mod Names
+pub mod Sizes
+pub mod Codec
+pub mod Fields
+pub mod Width
+pub mod Request
+pub mod Response
+pub mod RoutineControl
+pub mod TroubleCode
+pub mod Bench
+pub mod Vectors

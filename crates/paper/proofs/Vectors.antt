@@ -1,0 +1,81 @@
+-- Worked examples of what the bench's P table leaves out, by computing the definitions: sizes, limits of a width, writing, the desk check, trouble codes.
+-- Assumes nothing.
+use mathlib.Core.Path.{_≡_, refl}
+use Prim.Native.Nat.{ℕ, _-_, _^_}
+use mathlib.Core.Bool.{true, false}
+use mathlib.Core.List.{List, [], _∷_, _++_, map}
+use lib.ListN.{replicate}
+use Rattle.paper.specs.Answer.{refusal, accepted, refused, _leaving_, _>>=_, give, refuse, over, written}
+use Rattle.paper.specs.Bytes.{ofBytes, toBytes}
+use Rattle.paper.specs.Utf8.{inRange, begins, firstRow, charLength, validFrom, validUpTo, isUtf8}
+use Rattle.paper.specs.Sizes.{fit, firstFit, width, less, equal, greater, compare}
+use Rattle.paper.specs.Kind.{oneOf, addFile, deleteFile, readFile, readDir, known}
+use Rattle.paper.specs.Field.{part, byte, headed, counted, name, numbers, sizeGroup, withCount, laid, sizesAt}
+use Rattle.paper.specs.Request.{request, readRequest, requestAt, requestBytes, writeRequest}
+use Rattle.paper.specs.Response.{response, readResponse, responseAt, responseBytes, writeResponse, asRead}
+use Rattle.paper.specs.TroubleCode.{troubleCode, allCodes, fromNumber, readTroubleCode, none, next, nextTroubleCode, pendingDtc, confirmedDtc, severityValid, emissions, safety, legislative, vobd, reservedGroup, groupOf, saeJ2012DaFormat04, reservedFormat, formatOf}
+use Rattle.paper.specs.Desk.{deskCheck}
+
+-- 2^64 - 1 takes 8 bytes, 2^64 takes 9, 2^128 - 1 takes 16, and two zeros take 1
+widths : map width (((2 ^ 64 - 1) ∷ 0 ∷ []) ∷ (0 ∷ (2 ^ 64) ∷ []) ∷ ((2 ^ 128 - 1) ∷ []) ∷ (0 ∷ 0 ∷ []) ∷ []) ≡ 8 ∷ 9 ∷ 16 ∷ 1 ∷ []
+unfolding width firstFit fit
+widths = refl
+
+-- sizes compare by exact value, above 2^64 too
+comparisons : (compare (2 ^ 64) (2 ^ 64 - 1) ≡ greater) × (compare 1 (2 ^ 64) ≡ less) × (compare (2 ^ 128 - 1) (2 ^ 128 - 1) ≡ equal)
+unfolding compare
+comparisons = (refl, refl, refl)
+
+-- width 17: the bytes of the whole group must be there before the width is judged
+abbrev wide : ℕ → List ℕ
+wide n = 0x01 ∷ 0x00 ∷ 0x01 ∷ 0x61 ∷ 0x00 ∷ 17 ∷ replicate n 0
+
+widths-judged-late : (readRequest (wide 33) ≡ refused (refusal 1 35 34)) × (readRequest (wide 34) ≡ refused (refusal 6 17 0))
+unfolding _>>=_ give refuse ofBytes inRange begins firstRow charLength validFrom validUpTo isUtf8 oneOf known part byte headed counted name numbers sizeGroup readRequest
+widths-judged-late = (refl, refl)
+
+-- in a response a mode is judged at once, a width has two bytes, and block-length bytes are handed on as sent
+responses : (readResponse (0x07 ∷ []) ≡ refused (refusal 3 7 0))
+    × (readResponse (0x04 ∷ 0x02 ∷ 0x00 ∷ 0x10 ∷ 0x11 ∷ 0x00 ∷ 0x02 ∷ 0x00 ∷ 0xFF ∷ 0x01 ∷ 0x00 ∷ 0x5A ∷ []) ≡ accepted (response readFile (0x00 ∷ 0x10 ∷ []) 0x11 255 256 0 leaving (0x5A ∷ [])))
+    × (readResponse (0x05 ∷ 0x00 ∷ 0x00 ∷ 0x01 ∷ 0x00 ∷ []) ≡ refused (refusal 1 258 2))
+unfolding _>>=_ give refuse ofBytes oneOf known part byte headed counted numbers sizeGroup readResponse
+responses = (refl, refl, refl)
+
+-- writing fills exactly the counted bytes; one byte too little room changes nothing; a kind's missing block length is ignored, over-long or not
+abbrev delete : List ℕ → List ℕ
+delete n = 0x02 ∷ 0x00 ∷ 0x01 ∷ n
+
+writing : (let m = request deleteFile (0x61 ∷ []) 7 8 9 in
+    (written (writeRequest m) (1 ∷ 2 ∷ 3 ∷ 4 ∷ 5 ∷ []) ≡ record { answer = accepted 4; contents = 0x02 ∷ 0x00 ∷ 0x01 ∷ 0x61 ∷ 5 ∷ [] })
+    × (written (writeRequest m) (1 ∷ 2 ∷ 3 ∷ []) ≡ record { answer = refused (refusal 7 4 3); contents = 1 ∷ 2 ∷ 3 ∷ [] })
+    × (written (writeRequest (request deleteFile (0xFF ∷ []) 0 0 0)) (1 ∷ []) ≡ record { answer = refused (refusal 2 0 0); contents = 1 ∷ [] })
+    × (writeResponse (response deleteFile (replicate 300 0) 0 0 0 0) ≡ accepted (0x02 ∷ []))
+    × (writeResponse (response addFile (replicate 256 0) 0 0 0 0) ≡ refused (refusal 2 0 0)))
+unfolding over toBytes inRange begins firstRow charLength validFrom validUpTo isUtf8 withCount requestAt requestBytes writeRequest responseAt responseBytes asRead writeResponse
+writing = (refl, refl, refl, refl, refl)
+
+-- the desk check: bytes left over before the sizes, sizes of AddFile only, equal sizes pass
+abbrev sized : ℕ → ℕ → List ℕ → List ℕ
+sized x y t = 0x01 ∷ 0x00 ∷ 0x01 ∷ 0x61 ∷ 0x11 ∷ 0x01 ∷ x ∷ y ∷ t
+
+desk : (deskCheck (sized 1 2 (0x5A ∷ [])) ≡ refused (refusal 9 1 0)) × (deskCheck (sized 1 2 []) ≡ refused (refusal 8 0 0)) × (deskCheck (sized 2 2 []) ≡ accepted tt)
+    × (deskCheck (0x04 ∷ 0x00 ∷ 0x00 ∷ 0x11 ∷ []) ≡ accepted tt) × (deskCheck [] ≡ refused (refusal 1 1 0))
+unfolding deskCheck _>>=_ give refuse ofBytes inRange begins firstRow charLength validFrom validUpTo isUtf8 oneOf known part byte headed counted name numbers sizeGroup readRequest
+desk = (refl, refl, refl, refl, refl)
+
+-- trouble codes: the largest number and the one above it, and reading the next of a list
+trouble-codes : (fromNumber 0x00FFFFFF ≡ accepted allCodes) × (fromNumber 0x01000000 ≡ refused (refusal 5 0x01000000 0))
+    × (nextTroubleCode [] ≡ accepted none) × (nextTroubleCode (1 ∷ 2 ∷ []) ≡ refused (refusal 1 3 2))
+    × (nextTroubleCode (1 ∷ 2 ∷ 3 ∷ 4 ∷ []) ≡ accepted (next (troubleCode 1 2 3 leaving (4 ∷ []))))
+unfolding fromNumber readTroubleCode part _>>=_ give
+trouble-codes = (refl, refl, refl, refl, refl)
+
+-- bits and names of codes
+bits : (pendingDtc 0x04 ≡ true) × (confirmedDtc 0x04 ≡ false) × (severityValid 0x10 ≡ true) × (severityValid 0xE0 ≡ false)
+bits = (refl, refl, refl, refl)
+
+groups : map groupOf (0x33 ∷ 0xD0 ∷ 0xD1 ∷ 0xDF ∷ 0xE0 ∷ 0xFE ∷ 0x00 ∷ []) ≡ emissions ∷ safety ∷ legislative ∷ legislative ∷ reservedGroup ∷ vobd ∷ reservedGroup ∷ []
+groups = refl
+
+formats : map formatOf (0x04 ∷ 0x05 ∷ []) ≡ saeJ2012DaFormat04 ∷ reservedFormat ∷ []
+formats = refl

@@ -1,0 +1,13 @@
+pub mod Choice
+pub mod Answer
+pub mod Bytes
+pub mod Utf8
+pub mod Sizes
+pub mod Kind
+pub mod Field
+pub mod Rewriting
+pub mod Request
+pub mod Response
+pub mod RoutineControl
+pub mod TroubleCode
+pub mod Desk
