@@ -2,18 +2,19 @@
 -- Assumes nothing.
 use mathlib.Core.Path.{_≡_, refl}
 use Prim.Native.Nat.{ℕ, _-_, _^_}
-use mathlib.Core.Bool.{true, false}
+use mathlib.Core.Bool.{Bool, true, false}
 use mathlib.Core.List.{List, [], _∷_, _++_, map}
 use lib.ListN.{replicate}
 use Rattle.paper.specs.Answer.{refusal, accepted, refused, _leaving_, _>>=_, give, refuse, over, written}
 use Rattle.paper.specs.Bytes.{ofBytes, toBytes}
 use Rattle.paper.specs.Utf8.{inRange, begins, firstRow, charLength, validFrom, validUpTo, isUtf8}
 use Rattle.paper.specs.Sizes.{fit, firstFit, width, less, equal, greater, compare}
-use Rattle.paper.specs.Kind.{oneOf, addFile, deleteFile, readFile, readDir, known}
+use Rattle.paper.specs.Kind.{oneOf, addFile, deleteFile, readFile, resumeFile, known}
 use Rattle.paper.specs.Field.{part, byte, headed, counted, name, numbers, sizeGroup, withCount, laid, sizesAt}
 use Rattle.paper.specs.Request.{request, readRequest, requestAt, requestBytes, writeRequest}
 use Rattle.paper.specs.Response.{response, readResponse, responseAt, responseBytes, writeResponse, asRead}
-use Rattle.paper.specs.TroubleCode.{troubleCode, allCodes, fromNumber, readTroubleCode, none, next, nextTroubleCode, pendingDtc, confirmedDtc, severityValid, emissions, safety, legislative, vobd, reservedGroup, groupOf, saeJ2012DaFormat04, reservedFormat, formatOf}
+use Rattle.paper.specs.RoutineControl.{knownSub, routineBytes, wholeRest, readRoutineRequest, readRoutineResponse}
+use Rattle.paper.specs.TroubleCode.{troubleCode, allCodes, fromNumber, readTroubleCode, none, next, nextTroubleCode, testFailed, testFailedThisOperationCycle, pendingDtc, confirmedDtc, testNotCompletedSinceLastClear, testFailedSinceLastClear, testNotCompletedThisOperationCycle, warningIndicatorRequested, dtcClass, maintenanceOnly, checkAtNextHalt, checkImmediately, severityValid, emissions, safety, legislative, vobd, reservedGroup, groupOf, saeJ2012DaFormat04, reservedFormat, formatOf}
 use Rattle.paper.specs.Desk.{deskCheck}
 
 -- 2^64 - 1 takes 8 bytes, 2^64 takes 9, 2^128 - 1 takes 16, and two zeros take 1
@@ -41,10 +42,19 @@ responses : (readResponse (0x07 ∷ []) ≡ refused (refusal 3 7 0))
 unfolding _>>=_ give refuse ofBytes oneOf known part byte headed counted numbers sizeGroup readResponse
 responses = (refl, refl, refl)
 
--- writing fills exactly the counted bytes; one byte too little room changes nothing; a kind's missing block length is ignored, over-long or not
-abbrev delete : List ℕ → List ℕ
-delete n = 0x02 ∷ 0x00 ∷ 0x01 ∷ n
+-- the modes on both sides of the known ones
+modes : map (λ (b : ℕ). known b []) (0 ∷ 1 ∷ 6 ∷ 7 ∷ 255 ∷ [])
+    ≡ refused (refusal 3 0 0) ∷ accepted (addFile leaving []) ∷ accepted (resumeFile leaving []) ∷ refused (refusal 3 7 0) ∷ refused (refusal 3 255 0) ∷ []
+unfolding known oneOf give refuse
+modes = refl
 
+-- routine bytes: presence before the sub-function; a request's refusal carries the low seven bits, a response's the byte
+routines : (readRoutineRequest (0x89 ∷ 0x00 ∷ []) ≡ refused (refusal 1 3 2)) × (readRoutineRequest (0x89 ∷ 0x00 ∷ 0x00 ∷ []) ≡ refused (refusal 4 9 0))
+    × (readRoutineResponse (0x83 ∷ 0x00 ∷ 0x00 ∷ []) ≡ refused (refusal 4 0x83 0))
+unfolding _>>=_ give refuse ofBytes oneOf part knownSub routineBytes wholeRest readRoutineRequest readRoutineResponse
+routines = (refl, refl, refl)
+
+-- writing fills exactly the counted bytes; one byte too little room changes nothing; a kind's missing block length is ignored, over-long or not
 writing : (let m = request deleteFile (0x61 ∷ []) 7 8 9 in
     (written (writeRequest m) (1 ∷ 2 ∷ 3 ∷ 4 ∷ 5 ∷ []) ≡ record { answer = accepted 4; contents = 0x02 ∷ 0x00 ∷ 0x01 ∷ 0x61 ∷ 5 ∷ [] })
     × (written (writeRequest m) (1 ∷ 2 ∷ 3 ∷ []) ≡ record { answer = refused (refusal 7 4 3); contents = 1 ∷ 2 ∷ 3 ∷ [] })
@@ -70,9 +80,25 @@ trouble-codes : (fromNumber 0x00FFFFFF ≡ accepted allCodes) × (fromNumber 0x0
 unfolding fromNumber readTroubleCode part _>>=_ give
 trouble-codes = (refl, refl, refl, refl, refl)
 
--- bits and names of codes
-bits : (pendingDtc 0x04 ≡ true) × (confirmedDtc 0x04 ≡ false) × (severityValid 0x10 ≡ true) × (severityValid 0xE0 ≡ false)
-bits = (refl, refl, refl, refl)
+-- the questions in bit order; the three bytes together tell every bit from every other
+abbrev asked : List (ℕ → Bool) → List (List Bool)
+asked questions = map (λ (b : ℕ). map (λ (q : ℕ → Bool). q b) questions) (0xAA ∷ 0xCC ∷ 0xF0 ∷ [])
+
+abbrev bits-of-three : List (List Bool)
+bits-of-three =
+    (false ∷ true ∷ false ∷ true ∷ false ∷ true ∷ false ∷ true ∷ [])
+    ∷ (false ∷ false ∷ true ∷ true ∷ false ∷ false ∷ true ∷ true ∷ [])
+    ∷ (false ∷ false ∷ false ∷ false ∷ true ∷ true ∷ true ∷ true ∷ [])
+    ∷ []
+
+status : asked (testFailed ∷ testFailedThisOperationCycle ∷ pendingDtc ∷ confirmedDtc ∷ testNotCompletedSinceLastClear ∷ testFailedSinceLastClear ∷ testNotCompletedThisOperationCycle ∷ warningIndicatorRequested ∷ []) ≡ bits-of-three
+status = refl
+
+severity : asked (dtcClass 0 ∷ dtcClass 1 ∷ dtcClass 2 ∷ dtcClass 3 ∷ dtcClass 4 ∷ maintenanceOnly ∷ checkAtNextHalt ∷ checkImmediately ∷ []) ≡ bits-of-three
+severity = refl
+
+validity : map severityValid (0x01 ∷ 0x10 ∷ 0xE0 ∷ 0x00 ∷ []) ≡ true ∷ true ∷ false ∷ false ∷ []
+validity = refl
 
 groups : map groupOf (0x33 ∷ 0xD0 ∷ 0xD1 ∷ 0xDF ∷ 0xE0 ∷ 0xFE ∷ 0x00 ∷ []) ≡ emissions ∷ safety ∷ legislative ∷ legislative ∷ reservedGroup ∷ vobd ∷ reservedGroup ∷ []
 groups = refl
