@@ -10,7 +10,7 @@ use lib.Dec.{leb, eqb}
 use lib.ListN.{length, getD, take, drop, length-append, length-drop, take-append-drop}
 use lib.Seq.{take-at, take-append-le, drop-at, length-take-le}
 use Rattle.paper.specs.Choice.{pick}
-use Rattle.paper.specs.Answer.{Refusal, tooShort, badWidth, wrongFormat, unknownMode, accepted, refused, _leaving_, Reader, onward, _>>=_, give, refuse, judge}
+use Rattle.paper.specs.Answer.{Refusal, tooShort, badWidth, wrongFormat, unknownMode, Answer, accepted, refused, _leaving_, Reader, onward, _>>=_, give, refuse, judge, handOut}
 use Rattle.paper.specs.Bytes.{Bytes, ofBytes, toBytes}
 use Rattle.paper.specs.Utf8.{isUtf8}
 use Rattle.paper.specs.Sizes.{Fit, Holds}
@@ -285,26 +285,26 @@ pub record Coded (A : Type 0) (byteOf : A → ℕ) (b : ℕ) (a : A) (u : List �
 
 module _ {A : Type 0} (byteOf : A → ℕ) (unknown : ℕ → Refusal) where
   -- who is found has the byte
-  found : (all : List A) (b : ℕ) (s : List ℕ) (a : A) (t : List ℕ) → oneOf byteOf all unknown b s ≡ accepted (a leaving t) → (byteOf a ≡ b) × (s ≡ t)
-  unfolding oneOf refuse give
-  found [] b s a t e = absurd (never e)
-  found (x ∷ others) b s a t e = go (eqb (byteOf x) b) refl e (found others b s a t)
+  found : (all : List A) (b : ℕ) (a : A) → oneOf byteOf all unknown b ≡ accepted a → byteOf a ≡ b
+  unfolding oneOf
+  found [] b a e = absurd (never e)
+  found (x ∷ others) b a e = go (eqb (byteOf x) b) refl e (found others b a)
     where
-      go : (ok : Bool) → eqb (byteOf x) b ≡ ok → pick ok (give x) (oneOf byteOf others unknown b) s ≡ accepted (a leaving t)
-          → (oneOf byteOf others unknown b s ≡ accepted (a leaving t) → (byteOf a ≡ b) × (s ≡ t)) → (byteOf a ≡ b) × (s ≡ t)
-      go true q f ih = let same : x ≡ a = cc in (rw same at (eqb-true (byteOf x) b q), cc)
+      go : (ok : Bool) → eqb (byteOf x) b ≡ ok → pick ok (accepted x) (oneOf byteOf others unknown b) ≡ accepted a
+          → (oneOf byteOf others unknown b ≡ accepted a → byteOf a ≡ b) → byteOf a ≡ b
+      go true q f ih = let same : x ≡ a = cc in rw same at (eqb-true (byteOf x) b q)
       go false q f ih = ih f
 
   -- where each value is found by its byte, the reader accepts just the codes
-  pub reads-one-of : (all : List A) → ((a : A) → oneOf byteOf all unknown (byteOf a) ≡ give a) → (b : ℕ) → Reads A (oneOf byteOf all unknown b) (Coded A byteOf b)
-  unfolding give
-  reads-one-of all finds b = record {
-    sound = λ s a t h e. let (is, same) = found all b s a t e in ([], record { is = is; none = refl }, same);
-    complete = λ a u t v. rw (v .none, ← v .is, finds a);
-    plain = λ a u v. rw (v .none) tt;
-  }
+  pub reads-one-of : (all : List A) → ((a : A) → oneOf byteOf all unknown (byteOf a) ≡ accepted a) → (b : ℕ) → Reads A (handOut (oneOf byteOf all unknown b)) (Coded A byteOf b)
+  unfolding give refuse
+  reads-one-of all finds b = record { sound = λ s a t h. sound (oneOf byteOf all unknown b) refl s a t; complete = λ a u t v. rw (v .none, ← v .is, finds a); plain = λ a u v. rw (v .none) tt }
+    where
+      sound : (o : Answer A) → oneOf byteOf all unknown b ≡ o → (s : List ℕ) (a : A) (t : List ℕ) → handOut o s ≡ accepted (a leaving t) → (u : List ℕ) × Coded A byteOf b a u × (s ≡ u ++ t)
+      sound (accepted x) q s a t e = let same : x ≡ a = cc in ([], record { is = found all b a (q ∙ ap accepted same); none = refl }, cc)
+      sound (refused r) q s a t e = absurd (never e)
 
-each-kind : (k : Kind) → oneOf modeOf kinds unknownMode (modeOf k) ≡ give k
+each-kind : (k : Kind) → oneOf modeOf kinds unknownMode (modeOf k) ≡ accepted k
 unfolding oneOf
 each-kind addFile = refl
 each-kind deleteFile = refl
@@ -316,6 +316,6 @@ each-kind resumeFile = refl
 pub small-mode : (k : Kind) → modeOf k < 256
 small-mode = elim [ addFile ↦ omega arith | deleteFile ↦ omega arith | replaceFile ↦ omega arith | readFile ↦ omega arith | readDir ↦ omega arith | resumeFile ↦ omega arith ]
 
-pub reads-known : (mode : ℕ) → Reads Kind (known mode) (Coded Kind modeOf mode)
+pub reads-known : (mode : ℕ) → Reads Kind (handOut (known mode)) (Coded Kind modeOf mode)
 unfolding known
 reads-known mode = reads-one-of modeOf unknownMode kinds each-kind mode

@@ -10,7 +10,7 @@ use borrow.Author.Tests.{leb-true, leb-false, le-leb, lt-leb}
 use lib.Dec.{leb}
 use lib.ListN.{length, getD, drop, length-drop}
 use Rattle.paper.specs.Choice.{pick}
-use Rattle.paper.specs.Answer.{unknownSubFunction, accepted, refused, _leaving_, Reader, onward, _>>=_, give}
+use Rattle.paper.specs.Answer.{unknownSubFunction, accepted, refused, _leaving_, Reader, onward, _>>=_, give, handOut}
 use Rattle.paper.specs.Bytes.{Bytes, ofBytes, toBytes}
 use Rattle.paper.specs.Kind.{oneOf}
 use Rattle.paper.specs.Field.{part}
@@ -98,13 +98,13 @@ reads-routine-bytes = reads-as (λ h u. (there h u, back h u)) (reads-map g (rea
     }
 
 -- ---- sub-functions
-each-sub : (f : SubFunction) → oneOf byteOf subFunctions unknownSubFunction (byteOf f) ≡ give f
+each-sub : (f : SubFunction) → oneOf byteOf subFunctions unknownSubFunction (byteOf f) ≡ accepted f
 unfolding oneOf
 each-sub startRoutine = refl
 each-sub stopRoutine = refl
 each-sub requestRoutineResults = refl
 
-reads-sub : (b : ℕ) → Reads SubFunction (knownSub b) (Coded SubFunction byteOf b)
+reads-sub : (b : ℕ) → Reads SubFunction (handOut (knownSub b)) (Coded SubFunction byteOf b)
 unfolding knownSub
 reads-sub b = reads-one-of byteOf unknownSubFunction subFunctions each-sub b
 
@@ -173,7 +173,7 @@ module _ (M : Type 0) (judged : ℕ → ℕ) (made : RoutineBytes → SubFunctio
   }
 
   reads-routine : {W : Wire M} → ((m : M) (u : List ℕ) → Parts m u ↔ W m u)
-      → WholeLayout (routineBytes >>= (λ (h : RoutineBytes). knownSub (judged (h .control)) >>= (λ (f : SubFunction). wholeRest >>= (λ (r : List ℕ). give (made h f r))))) W
+      → WholeLayout (routineBytes >>= (λ (h : RoutineBytes). handOut (knownSub (judged (h .control))) >>= (λ (f : SubFunction). wholeRest >>= (λ (r : List ℕ). give (made h f r))))) W
   unfolding Steps
   reads-routine i =
       all-layout (λ m u. ((λ v. i m u .0 (there m u v)), (λ v. back m u (i m u .1 v))))

@@ -43,9 +43,8 @@ unfolding _>>=_ give refuse ofBytes oneOf known part byte headed counted numbers
 responses = (refl, refl, refl)
 
 -- the modes on both sides of the known ones
-modes : map (λ (b : ℕ). known b []) (0 ∷ 1 ∷ 6 ∷ 7 ∷ 255 ∷ [])
-    ≡ refused (refusal 3 0 0) ∷ accepted (addFile leaving []) ∷ accepted (resumeFile leaving []) ∷ refused (refusal 3 7 0) ∷ refused (refusal 3 255 0) ∷ []
-unfolding known oneOf give refuse
+modes : map known (0 ∷ 1 ∷ 6 ∷ 7 ∷ 255 ∷ []) ≡ refused (refusal 3 0 0) ∷ accepted addFile ∷ accepted resumeFile ∷ refused (refusal 3 7 0) ∷ refused (refusal 3 255 0) ∷ []
+unfolding known oneOf
 modes = refl
 
 -- routine bytes: presence before the sub-function; a request's refusal carries the low seven bits, a response's the byte

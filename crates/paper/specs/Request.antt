@@ -4,7 +4,7 @@ use mathlib.Core.Path.{_≡_}
 use mathlib.Core.List.{List, [], _∷_, _++_}
 use lib.ListN.{length}
 use lib.Dec.{leb}
-use Rattle.paper.specs.Answer.{Answer, accepted, wrongFormat, check, Reader, _>>=_, give}
+use Rattle.paper.specs.Answer.{Answer, accepted, wrongFormat, check, Reader, _>>=_, give, handOut}
 use Rattle.paper.specs.Utf8.{Utf8, isUtf8}
 use Rattle.paper.specs.Sizes.{Fit, Holds, width}
 use Rattle.paper.specs.Kind.{Kind, addFile, deleteFile, replaceFile, readFile, readDir, resumeFile, modeOf, known}
@@ -49,7 +49,7 @@ unfoldable pub readRequest : Reader Request
 readRequest = do
   mode ← byte
   n ← name
-  k ← known mode
+  k ← handOut (known mode)
   readAfterName k n (afterName k)
 
 -- ---- writing: what the kind lacks is ignored

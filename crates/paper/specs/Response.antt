@@ -4,7 +4,7 @@ use mathlib.Core.Path.{_≡_}
 use mathlib.Core.List.{List, [], _∷_, _++_}
 use lib.ListN.{length}
 use lib.Dec.{leb}
-use Rattle.paper.specs.Answer.{Answer, accepted, wrongFormat, check, Reader, _>>=_, give}
+use Rattle.paper.specs.Answer.{Answer, accepted, wrongFormat, check, Reader, _>>=_, give, handOut}
 use Rattle.paper.specs.Bytes.{Bytes, toBytes}
 use Rattle.paper.specs.Sizes.{Fit, Holds, width}
 use Rattle.paper.specs.Kind.{Kind, addFile, deleteFile, replaceFile, readFile, readDir, resumeFile, modeOf, known}
@@ -64,7 +64,7 @@ readAfterMode k (blockAndFormat more) = do
 unfoldable pub readResponse : Reader Response
 readResponse = do
   mode ← byte
-  k ← known mode
+  k ← handOut (known mode)
   readAfterMode k (afterMode k)
 
 -- ---- writing: what the kind lacks is ignored

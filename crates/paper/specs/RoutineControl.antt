@@ -6,7 +6,7 @@ use mathlib.Core.List.{List, [], _∷_, _++_}
 use lib.ListN.{length, getD, drop}
 use lib.Dec.{leb}
 use Rattle.paper.specs.Choice.{pick}
-use Rattle.paper.specs.Answer.{Answer, accepted, wrongFormat, unknownSubFunction, check, _leaving_, Reader, _>>=_, give}
+use Rattle.paper.specs.Answer.{Answer, accepted, wrongFormat, unknownSubFunction, check, _leaving_, Reader, _>>=_, give, handOut}
 use Rattle.paper.specs.Bytes.{Bytes, ofBytes, toBytes}
 use Rattle.paper.specs.Kind.{oneOf}
 use Rattle.paper.specs.Field.{part}
@@ -23,7 +23,7 @@ abbrev pub subFunctions : List SubFunction
 subFunctions = startRoutine ∷ stopRoutine ∷ requestRoutineResults ∷ []
 
 -- the sub-function of a byte, else refusal 4 with the byte
-unfoldable pub knownSub : ℕ → Reader SubFunction
+unfoldable pub knownSub : ℕ → Answer SubFunction
 knownSub b = oneOf byteOf subFunctions unknownSubFunction b
 
 pub record RoutineRequest : Type 0 where
@@ -56,7 +56,7 @@ wholeRest s = accepted (s leaving [])
 unfoldable pub readRoutineRequest : Reader RoutineRequest
 readRoutineRequest = do
   h ← routineBytes
-  f ← knownSub (h .control % 128)
+  f ← handOut (knownSub (h .control % 128))
   r ← wholeRest
   give (record { suppress = leb 128 (h .control); subFunction = f; identifier = h .identifier; «record» = r })
 
@@ -64,7 +64,7 @@ readRoutineRequest = do
 unfoldable pub readRoutineResponse : Reader RoutineResponse
 readRoutineResponse = do
   h ← routineBytes
-  f ← knownSub (h .control)
+  f ← handOut (knownSub (h .control))
   r ← wholeRest
   give (record { subFunction = f; identifier = h .identifier; «record» = r })
 

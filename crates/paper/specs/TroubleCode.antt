@@ -1,6 +1,6 @@
 -- Document 01, "Trouble-code fields".
-use Prim.Native.Nat.{ℕ, _+_, _*_, _/_, _%_, _^_}
-use mathlib.Core.Bool.{Bool}
+use Prim.Native.Nat.{ℕ, zero, suc, _+_, _*_, _/_, _%_, _^_}
+use mathlib.Core.Bool.{Bool, false}
 use mathlib.Core.List.{List, [], _∷_}
 use lib.ListN.{getD}
 use lib.Dec.{leb, eqb}
@@ -84,6 +84,14 @@ testNotCompletedThisOperationCycle b = bit 6 b
 
 abbrev pub warningIndicatorRequested : ℕ → Bool
 warningIndicatorRequested b = bit 7 b
+
+-- a status matches a mask when some bit is set in both: here one of the k lowest
+abbrev pub inCommon : ℕ → ℕ → ℕ → Bool
+inCommon zero a b = false
+inCommon (suc k) a b = either (both (bit k a) (bit k b)) (inCommon k a b)
+
+abbrev pub matches : ℕ → ℕ → Bool
+matches mask status = inCommon 8 mask status
 
 -- the severity bits: class k for k from 0 to 4, then three more
 abbrev pub dtcClass : ℕ → ℕ → Bool
