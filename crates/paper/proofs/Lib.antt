@@ -5,6 +5,7 @@ pub mod Names
 pub mod Sizes
 pub mod Codec
 pub mod Fields
+pub mod Places
 pub mod Width
 pub mod Request
 pub mod Response

@@ -1,0 +1,16 @@
+-- The else arm: who leaves with the refusal of a field's answer leaves with the paper's answer to that field.
+-- Assumes nothing.
+use mathlib.Core.Path.{_≡_, sym, ap, _∙_}
+use Prim.Native.Nat.{ℕ}
+use mathlib.Core.List.{List}
+use lib.ListN.{drop}
+use Rattle.paper.specs.Answer.{Answer, refused, Read, Reader}
+use Rattle.wire.specs.Refusals.{row}
+use Rattle.wire.specs.Reading.{Seen, stopped, said, Right, refusalIn}
+use Rattle.wire.specs.declared.refusal.Refusal.{Refusal}
+
+-- x is the answer as seen, which a callee promised to be right; it is a refusal, and r is what `x.refusal()` handed back
+pub left : {A M : Type 0} {meaning : A → M} {field : Reader M} {Place : A → ℕ → Type 0} {s : List ℕ} {at : ℕ} {x : Seen A} {e r : Refusal}
+    → Right A M meaning field Place s at x → x ≡ stopped e → r ≡ refusalIn x → refused (row r) ≡ field (drop at s)
+left {A} {M} {meaning} {s = s} right is from =
+    ap (λ (i : Refusal). refused (row i)) (from ∙ ap refusalIn is) ∙ sym (ap (said meaning s) is) ∙ right .paper

@@ -1,0 +1,13 @@
+pub mod Refusals
+pub mod Sizes
+pub mod Halves
+pub mod Prefixes
+pub mod Parts
+pub mod Uint
+pub mod Groups
+pub mod Left
+pub mod Over
+pub mod Writes
+pub mod LowBytes
+pub mod Unique
+pub mod UniqueWriting

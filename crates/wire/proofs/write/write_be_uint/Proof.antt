@@ -1,0 +1,49 @@
+-- `wire::write::write_be_uint` meets its contract. The invariant: the bytes still to come, in front of what is written, are what is to be there at the end.
+-- Assumes nothing.
+use Prim.Native.Nat.{_+_, _-_, _≤_}
+use mathlib.Core.Path.{_≡_}
+use mathlib.Core.List.{_++_}
+use native.Mathlib.Omega.{arith}
+use borrow.Author.Needs.{needs}
+use lib.ListN.{length, drop, length-set}
+use Rattle.paper.specs.Answer.{over}
+use Rattle.paper.specs.Bytes.{toBytes}
+use Rattle.wire.specs.Size.{value}
+use Rattle.wire.specs.Writing.{lowBytes}
+use Rattle.wire.proofs.LowBytes.{low-store, length-low}
+use Rattle.wire.proofs.Writes.{refuses, writes}
+use Rattle.wire.proofs.write.write_be_uint.Statement.{statement}
+use Rattle.wire.proofs.write.write_be_uint.Tie as tie
+
+abbrev Inv-loop : tie.InvT-loop
+Inv-loop width out₀ room rest₀ i₀ out rest i =
+    (lowBytes i (value rest) ++ drop i out ≡ lowBytes width (value rest₀) ++ drop width out₀) × (i ≤ width) × (length out ≡ length out₀)
+
+abbrev μ-loop : tie.MeasureT-loop
+μ-loop width out₀ room rest₀ i₀ out rest i = i
+
+returns : tie.Need-returns Inv-loop μ-loop
+returns c = refuses _ (length-low _ _) (search needs)
+
+loop-again : tie.Need-loop-again Inv-loop μ-loop
+loop-again c =
+    let at = c .before .before .before in
+    let i = at .loop .i in
+    let back : i - 1 + 1 ≡ i = omega arith in (
+      rw (c .shift-out .ensures, c .before .low-byte .ensures, low-store (i - 1) _ (at .loop .out) (omega arith), back) (at .loop .inv .0),
+      omega arith,
+      simp length-set (at .loop .inv .2),
+    )
+
+returns-2 : tie.Need-returns-2 Inv-loop μ-loop
+unfolding over lowBytes toBytes
+returns-2 c =
+    let done : c .before .loop .i ≡ 0 = omega arith in
+    let a = c .before .before .before .before .args in
+    let long = length-low (a .width) (value (a .x)) in
+    writes (a .width) long (search needs) (record { given-room = λ h. rw long (rw done at (c .before .loop .inv .0)) })
+
+pub write-be-uint-spec : {M : Type 1} → statement M
+write-be-uint-spec =
+    tie.close
+    (tie.spec Inv-loop μ-loop returns (λ c. search needs) (λ c. search needs) (λ c κs. search needs) (λ c. search needs) (λ c κs. search needs) (λ c. search needs) loop-again (λ c. search needs) returns-2)

@@ -1,0 +1,126 @@
+// Numbers in one, two and eight bytes, high byte first.
+use crate::refusal::Refusal;
+use crate::room::left;
+use crate::room::wide;
+use crate::size::Size;
+use crate::size::shift_in;
+ghost use mathlib.Core.Path.{_≡_};
+ghost use Prim.Native.Nat.{_+_, _≤_, _<_};
+ghost use lib.ListN.{length, take, drop};
+ghost use Rattle.paper.specs.Bytes.{ofBytes};
+ghost use Rattle.wire.specs.Size.{value};
+ghost use Rattle.wire.specs.Reading.{refusalIn};
+ghost use Rattle.wire.specs.Number.{seenByte, ByteRight, seenTwo, TwoRight, seenEight, EightRight};
+
+// The byte and where the next field begins, or the refusal.
+pub enum ByteAnswer {
+    Accepted(u8, usize),
+    Refused(Refusal),
+}
+
+pub fn byte_at(s: &[u8], at: usize) -> ByteAnswer
+    ensures { λ r. ⌜ ByteRight (now (s .entry)) at r ⌝ }
+{
+    if s.len() <= at {
+        return ByteAnswer::Refused(Refusal::TooShort {
+            needed: 1,
+            available: 0,
+        });
+    }
+    ByteAnswer::Accepted(s[at], at + 1)
+}
+
+impl ByteAnswer {
+    // The refusal; of a byte that was accepted there is none, and WrongFormat stands in.
+    pub fn refusal(self) -> Refusal
+        ensures { λ r. ⌜ r ≡ refusalIn (seenByte self) ⌝ }
+    {
+        match self {
+            ByteAnswer::Refused(e) => e,
+            ByteAnswer::Accepted(_, _) => Refusal::WrongFormat,
+        }
+    }
+}
+
+// The number in the `width` bytes of `s` from `at` on, which are there.
+pub(crate) fn gather(s: &[u8], at: usize, width: usize) -> Size
+    requires { ⌜ (width ≤ 16) × (at + width ≤ length (now s)) ⌝ }
+    ensures { λ r. ⌜ value r ≡ ofBytes (take width (drop at (now (s .entry)))) ⌝ }
+{
+    let mut x = Size { high: 0, low: 0 };
+    let mut i = 0;
+    while i < width {
+        x = shift_in(x, s[at + i]);
+        i += 1;
+    }
+    x
+}
+
+// The number in the two bytes of `s` from `at` on, which are there.
+pub(crate) fn pair(s: &[u8], at: usize) -> usize
+    requires { ⌜ at + 2 ≤ length (now s) ⌝ }
+    ensures { λ r. ⌜ (r ≡ ofBytes (take 2 (drop at (now (s .entry))))) × (r < 65536) ⌝ }
+{
+    let high = wide(s[at]);
+    let low = wide(s[at + 1]);
+    high * 256 + low
+}
+
+pub enum TwoAnswer {
+    Accepted(u16, usize),
+    Refused(Refusal),
+}
+
+pub fn two_at(s: &[u8], at: usize) -> TwoAnswer
+    ensures { λ r. ⌜ TwoRight (now (s .entry)) at r ⌝ }
+{
+    let room = left(s, at);
+    if room < 2 {
+        return TwoAnswer::Refused(Refusal::TooShort {
+            needed: 2,
+            available: room,
+        });
+    }
+    TwoAnswer::Accepted(pair(s, at) as u16, at + 2)
+}
+
+impl TwoAnswer {
+    pub fn refusal(self) -> Refusal
+        ensures { λ r. ⌜ r ≡ refusalIn (seenTwo self) ⌝ }
+    {
+        match self {
+            TwoAnswer::Refused(e) => e,
+            TwoAnswer::Accepted(_, _) => Refusal::WrongFormat,
+        }
+    }
+}
+
+pub enum EightAnswer {
+    Accepted(u64, usize),
+    Refused(Refusal),
+}
+
+pub fn eight_at(s: &[u8], at: usize) -> EightAnswer
+    ensures { λ r. ⌜ EightRight (now (s .entry)) at r ⌝ }
+{
+    let room = left(s, at);
+    if room < 8 {
+        return EightAnswer::Refused(Refusal::TooShort {
+            needed: 8,
+            available: room,
+        });
+    }
+    let x = gather(s, at, 8);
+    EightAnswer::Accepted(x.low, at + 8)
+}
+
+impl EightAnswer {
+    pub fn refusal(self) -> Refusal
+        ensures { λ r. ⌜ r ≡ refusalIn (seenEight self) ⌝ }
+    {
+        match self {
+            EightAnswer::Refused(e) => e,
+            EightAnswer::Accepted(_, _) => Refusal::WrongFormat,
+        }
+    }
+}

@@ -1,0 +1,86 @@
+// Why a call refuses: a variant for each refusal of document 01's table, with what it carries.
+ghost use mathlib.Core.Path.{_≡_};
+ghost use Rattle.wire.specs.Refusals.{row};
+
+pub enum Refusal {
+    // 1: the field at hand has fewer bytes than it needs, both counted from the start of the field.
+    TooShort { needed: usize, available: usize },
+    // 2: the name is not UTF-8; or the name, the block length or the routine record is too long.
+    WrongFormat,
+    // 3: no kind has this mode byte.
+    UnknownMode(u8),
+    // 4: no routine sub-function has this byte.
+    UnknownSubFunction(u8),
+    // 5: the trouble-code number is above 0x00FFFFFF.
+    NoTroubleCode(u32),
+    // 6: the sizes are 0 bytes wide, or more than 16.
+    BadWidth(usize),
+    // 7: the room is smaller than the message.
+    NoRoom { needed: usize, room: usize },
+    // 8: the desk check found a compressed size above the uncompressed.
+    CompressedAbove,
+    // 9: the desk check found so many bytes left over.
+    LeftOver(usize),
+}
+
+impl Refusal {
+    // The number in the table.
+    pub fn number(self) -> usize
+        ensures { λ r. ⌜ r ≡ row self .number ⌝ }
+    {
+        match self {
+            Refusal::TooShort {
+                needed: _,
+                available: _,
+            } => 1,
+            Refusal::WrongFormat => 2,
+            Refusal::UnknownMode(_) => 3,
+            Refusal::UnknownSubFunction(_) => 4,
+            Refusal::NoTroubleCode(_) => 5,
+            Refusal::BadWidth(_) => 6,
+            Refusal::NoRoom { needed: _, room: _ } => 7,
+            Refusal::CompressedAbove => 8,
+            Refusal::LeftOver(_) => 9,
+        }
+    }
+
+    // The first of the two values that it carries, 0 where it carries none.
+    pub fn first(self) -> usize
+        ensures { λ r. ⌜ r ≡ row self .first ⌝ }
+    {
+        match self {
+            Refusal::TooShort {
+                needed,
+                available: _,
+            } => needed,
+            Refusal::WrongFormat => 0,
+            Refusal::UnknownMode(b) => b as usize,
+            Refusal::UnknownSubFunction(b) => b as usize,
+            Refusal::NoTroubleCode(n) => n as usize,
+            Refusal::BadWidth(w) => w,
+            Refusal::NoRoom { needed, room: _ } => needed,
+            Refusal::CompressedAbove => 0,
+            Refusal::LeftOver(n) => n,
+        }
+    }
+
+    // The second of them, 0 where it carries fewer.
+    pub fn second(self) -> usize
+        ensures { λ r. ⌜ r ≡ row self .second ⌝ }
+    {
+        match self {
+            Refusal::TooShort {
+                needed: _,
+                available,
+            } => available,
+            Refusal::NoRoom { needed: _, room } => room,
+            Refusal::WrongFormat => 0,
+            Refusal::UnknownMode(_) => 0,
+            Refusal::UnknownSubFunction(_) => 0,
+            Refusal::NoTroubleCode(_) => 0,
+            Refusal::BadWidth(_) => 0,
+            Refusal::CompressedAbove => 0,
+            Refusal::LeftOver(_) => 0,
+        }
+    }
+}

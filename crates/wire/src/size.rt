@@ -1,0 +1,105 @@
+// Sizes: the numbers from 0 to 2^128 - 1, held as two halves. They are compared, and measured in bytes.
+ghost use mathlib.Core.Path.{_≡_};
+ghost use mathlib.Core.List.{[], _∷_};
+ghost use Prim.Native.Nat.{max, _+_, _*_, _/_, _%_, _^_, _<_};
+ghost use Rattle.paper.specs.Sizes.{Smallest, compare};
+ghost use Rattle.wire.specs.Size.{value, orderOf};
+
+pub struct Size {
+    pub high: u64,
+    pub low: u64,
+}
+
+pub enum Order {
+    Less,
+    Equal,
+    Greater,
+}
+
+// The order of two sizes by their exact values.
+pub fn compare(a: Size, b: Size) -> Order
+    ensures { λ r. ⌜ orderOf r ≡ compare (value a) (value b) ⌝ }
+{
+    if a.high < b.high {
+        return Order::Less;
+    }
+    if b.high < a.high {
+        return Order::Greater;
+    }
+    if a.low < b.low {
+        return Order::Less;
+    }
+    if b.low < a.low {
+        return Order::Greater;
+    }
+    Order::Equal
+}
+
+// The larger of two sizes.
+fn larger(a: Size, b: Size) -> Size
+    ensures { λ r. ⌜ value r ≡ max (value a) (value b) ⌝ }
+{
+    match compare(a, b) {
+        Order::Less => b,
+        Order::Equal => a,
+        Order::Greater => a,
+    }
+}
+
+// The smallest width that holds a half. 0 takes one byte.
+fn width_of_half(n: u64) -> usize
+    ensures { λ r. ⌜ Smallest (n ∷ []) r ⌝ }
+{
+    let mut rest = n;
+    let mut k: usize = 0;
+    while 256 <= rest {
+        rest = rest / 256;
+        k += 1;
+    }
+    k + 1
+}
+
+// The smallest width from 1 to 16 that holds a size. 0 takes one byte.
+pub fn width_of(x: Size) -> usize
+    ensures { λ r. ⌜ Smallest (value x ∷ []) r ⌝ }
+{
+    if x.high == 0 {
+        return width_of_half(x.low);
+    }
+    8 + width_of_half(x.high)
+}
+
+// The smallest width from 1 to 16 that holds both sizes. Two zeros take one byte.
+pub fn width_of_both(a: Size, b: Size) -> usize
+    ensures { λ r. ⌜ Smallest (value a ∷ value b ∷ []) r ⌝ }
+{
+    width_of(larger(a, b))
+}
+
+// The size with one byte more at its low end.
+pub(crate) fn shift_in(x: Size, b: u8) -> Size
+    requires { ⌜ value x < 2 ^ 120 ⌝ }
+    ensures { λ r. ⌜ value r ≡ value x * 256 + b ⌝ }
+{
+    Size {
+        high: x.high * 256 + x.low / 0x100_0000_0000_0000,
+        low: x.low % 0x100_0000_0000_0000 * 256 + b as u64,
+    }
+}
+
+// The size without its low byte.
+pub(crate) fn shift_out(x: Size) -> Size
+    ensures { λ r. ⌜ value r ≡ value x / 256 ⌝ }
+{
+    Size {
+        high: x.high / 256,
+        low: x.high % 256 * 0x100_0000_0000_0000 + x.low / 256,
+    }
+}
+
+// The low byte of a size.
+pub(crate) fn low_byte(x: Size) -> u8
+    ensures { λ r. ⌜ r ≡ value x % 256 ⌝ }
+{
+    (x.low % 256) as u8
+}

@@ -1,0 +1,153 @@
+// Writers of the fields that messages share, each into the room that is lent for it, from its start.
+// Too little room is refusal 7, and then nothing changes; else exactly the counted bytes are written, and the rest stays as it was.
+use crate::prefix::Prefix;
+use crate::refusal::Refusal;
+use crate::size::Size;
+use crate::size::low_byte;
+use crate::size::shift_out;
+use crate::size::width_of;
+use crate::size::width_of_both;
+ghost use mathlib.Core.Path.{_≡_};
+ghost use mathlib.Core.List.{[], _∷_};
+ghost use Rattle.paper.specs.Answer.{accepted};
+ghost use Rattle.paper.specs.Bytes.{toBytes};
+ghost use Rattle.wire.specs.Prefix.{prefixLen, prefixMost};
+ghost use Rattle.wire.specs.Size.{value};
+ghost use Rattle.wire.specs.Writing.{Wrote, lowBytes, countedRun, sizesOut};
+
+// How many bytes were written, or the refusal.
+pub enum WriteAnswer {
+    Accepted(usize),
+    Refused(Refusal),
+}
+
+pub fn put_byte(x: u8, out: &mut [u8]) -> WriteAnswer
+    ensures { λ r. ⌜ Wrote (accepted (x ∷ [])) (now (out .entry)) r (now (out .exit)) ⌝ }
+{
+    let room = out.len();
+    if room < 1 {
+        return WriteAnswer::Refused(Refusal::NoRoom { needed: 1, room });
+    }
+    out[0] = x;
+    WriteAnswer::Accepted(1)
+}
+
+// High byte first.
+pub fn put_two(x: u16, out: &mut [u8]) -> WriteAnswer
+    ensures { λ r. ⌜ Wrote (accepted (toBytes 2 x)) (now (out .entry)) r (now (out .exit)) ⌝ }
+{
+    let room = out.len();
+    if room < 2 {
+        return WriteAnswer::Refused(Refusal::NoRoom { needed: 2, room });
+    }
+    out[0] = (x / 256 % 256) as u8;
+    out[1] = (x % 256) as u8;
+    WriteAnswer::Accepted(2)
+}
+
+// The bytes as they are.
+pub fn put_bytes(src: &[u8], out: &mut [u8]) -> WriteAnswer
+    ensures { λ r. ⌜ Wrote (accepted (now (src .entry))) (now (out .entry)) r (now (out .exit)) ⌝ }
+{
+    let needed = src.len();
+    let room = out.len();
+    if room < needed {
+        return WriteAnswer::Refused(Refusal::NoRoom { needed, room });
+    }
+    let mut i = 0;
+    while i < src.len() {
+        out[i] = src[i];
+        i += 1;
+    }
+    WriteAnswer::Accepted(needed)
+}
+
+// The low `width` bytes of a size, high byte first: all of it where it fits.
+pub fn write_be_uint(x: Size, width: usize, out: &mut [u8]) -> WriteAnswer
+    ensures { λ r. ⌜ Wrote (accepted (lowBytes width (value x))) (now (out .entry)) r (now (out .exit)) ⌝ }
+{
+    let room = out.len();
+    if room < width {
+        return WriteAnswer::Refused(Refusal::NoRoom {
+            needed: width,
+            room,
+        });
+    }
+    let mut rest = x;
+    let mut i = width;
+    while 0 < i {
+        i -= 1;
+        out[i] = low_byte(rest);
+        rest = shift_out(rest);
+    }
+    WriteAnswer::Accepted(width)
+}
+
+// High byte first.
+pub fn put_eight(x: u64, out: &mut [u8]) -> WriteAnswer
+    ensures { λ r. ⌜ Wrote (accepted (toBytes 8 x)) (now (out .entry)) r (now (out .exit)) ⌝ }
+{
+    write_be_uint(Size { high: 0, low: x }, 8, out)
+}
+
+// A number of bytes as a size.
+fn size_from(n: usize) -> Size
+    ensures { λ r. ⌜ value r ≡ n ⌝ }
+{
+    Size {
+        high: 0,
+        low: n as u64,
+    }
+}
+
+// The bytes of `src` after their count; more of them than the count holds are refusal 2, judged before the room.
+pub fn put_counted(prefix: Prefix, src: &[u8], out: &mut [u8]) -> WriteAnswer
+    ensures { λ r. ⌜ Wrote (countedRun (prefixLen prefix) (prefixMost prefix) (now (src .entry))) (now (out .entry)) r (now (out .exit)) ⌝ }
+{
+    if prefix.most() < src.len() {
+        return WriteAnswer::Refused(Refusal::WrongFormat);
+    }
+    let at = prefix.len();
+    let needed = at + src.len();
+    let room = out.len();
+    if room < needed {
+        return WriteAnswer::Refused(Refusal::NoRoom { needed, room });
+    }
+    write_be_uint(size_from(src.len()), at, out);
+    put_bytes(src, &mut out[at..]);
+    WriteAnswer::Accepted(needed)
+}
+
+// One size at its smallest width, after the width.
+pub fn put_one_size(prefix: Prefix, x: Size, out: &mut [u8]) -> WriteAnswer
+    ensures { λ r. ⌜ Wrote (accepted (sizesOut (prefixLen prefix) (value x ∷ []))) (now (out .entry)) r (now (out .exit)) ⌝ }
+{
+    let first = prefix.len();
+    let width = width_of(x);
+    let needed = first + width;
+    let room = out.len();
+    if room < needed {
+        return WriteAnswer::Refused(Refusal::NoRoom { needed, room });
+    }
+    write_be_uint(size_from(width), first, out);
+    write_be_uint(x, width, &mut out[first..]);
+    WriteAnswer::Accepted(needed)
+}
+
+// Two sizes at the smallest width that holds both, after the width.
+pub fn put_two_sizes(prefix: Prefix, a: Size, b: Size, out: &mut [u8]) -> WriteAnswer
+    ensures { λ r. ⌜ Wrote (accepted (sizesOut (prefixLen prefix) (value a ∷ value b ∷ []))) (now (out .entry)) r (now (out .exit)) ⌝ }
+{
+    let first = prefix.len();
+    let width = width_of_both(a, b);
+    let second = first + width;
+    let needed = second + width;
+    let room = out.len();
+    if room < needed {
+        return WriteAnswer::Refused(Refusal::NoRoom { needed, room });
+    }
+    write_be_uint(size_from(width), first, out);
+    write_be_uint(a, width, &mut out[first..]);
+    write_be_uint(b, width, &mut out[second..]);
+    WriteAnswer::Accepted(needed)
+}
