@@ -1,0 +1,7 @@
+pub mod Tests
+pub mod Valid
+pub mod Ascii
+pub mod Character
+pub mod Fit
+pub mod Longest
+pub mod Unique

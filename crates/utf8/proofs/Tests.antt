@@ -1,0 +1,22 @@
+-- Tests and their two outcomes. Assumes nothing.
+use Prim.Native.Nat.{ℕ, _-_, _≤_, _<_}
+use mathlib.Core.Path.{_≡_, refl}
+use mathlib.Core.Bool.{Bool, true, false, _&&_, Bool·beq, false≢true}
+use mathlib.Core.Logic.{_⊎_, inl, inr, ⊎-elim}
+use native.Mathlib.Omega.{arith}
+use native.Mathlib.Nat.{eq-zero-or-pos}
+
+pub cut : (a n : ℕ) → (a < n) ⊎ (n ≤ a)
+cut a n = ⊎-elim (λ z. inr (omega arith)) (λ p. inl (omega arith)) (eq-zero-or-pos (n - a))
+
+-- two tests do not both pass, and the first does
+pub and-other : (p q : Bool) → (p && q) ≡ false → p ≡ true → q ≡ false
+and-other true q e f = e
+and-other false q e f = absurd (false≢true f)
+
+-- two tests have the same outcome
+pub same : (p q : Bool) → Bool·beq p q ≡ true → p ≡ q
+same true true e = refl
+same true false e = absurd (false≢true e)
+same false true e = absurd (false≢true e)
+same false false e = refl

@@ -1,0 +1,21 @@
+-- Text in ASCII.
+use Prim.Native.Nat.{ℕ, _≤_, _<_}
+use mathlib.Core.List.{List}
+use lib.ListN.{length, getD}
+
+-- each of the first n bytes of s is below 0x80
+abbrev pub AsciiTo : List ℕ → ℕ → Type 0
+AsciiTo s n = (i : ℕ) → i < n → getD s i 0 < 0x80
+
+abbrev pub Ascii : List ℕ → Type 0
+Ascii s = AsciiTo s (length s)
+
+-- s begins with n bytes of ASCII
+pub record AsciiStart (s : List ℕ) (n : ℕ) : Type 0 where
+  pub within : n ≤ length s
+  pub ascii : AsciiTo s n
+
+-- it does, and with some where its first byte is ASCII
+pub record AsciiRun (s : List ℕ) (n : ℕ) : Type 0 where
+  pub start : AsciiStart s n
+  pub some : 0 < length s → getD s 0 0 < 0x80 → 0 < n

@@ -1,0 +1,4 @@
+pub mod Valid
+pub mod Ascii
+pub mod Character
+pub mod Fit
