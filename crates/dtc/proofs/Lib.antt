@@ -1,0 +1,5 @@
+pub mod Bits
+pub mod OneByte
+pub mod Records
+pub mod Rounds
+pub mod Unique

@@ -1,0 +1,3 @@
+pub mod SubFunction
+pub mod Request
+pub mod Response
