@@ -1,4 +1,4 @@
--- Text in ASCII is UTF-8, by the block and by the byte. Assumes nothing.
+-- ASCII by the block and by the run, and that it is UTF-8. Assumes nothing.
 use Prim.Native.Nat.{ℕ, zero, suc, _+_, _-_, _≤_, _<_}
 use mathlib.Core.Path.{_≡_, ap}
 use mathlib.Core.Logic.{⊎-elim}
@@ -15,7 +15,7 @@ use Rattle.utf8.specs.Ascii.{AsciiTo, Ascii, AsciiStart, AsciiRun}
 use Rattle.utf8.proofs.Valid.{part-at}
 use Rattle.utf8.proofs.Tests.{cut}
 
--- the bits of two bytes are below 0x80 only where both are
+-- one byte more: the bits of two bytes together are below 0x80 only where both are
 pub bits-turn : (s : List ℕ) (i bits : ℕ) → (bits < 0x80 → AsciiTo s i) → bitOr bits (getD s i 0) < 0x80 → AsciiTo s (i + 1)
 bits-turn s i bits h l =
     let b = getD s i 0 in
@@ -45,6 +45,7 @@ run-stops {s} {at} h b = record {
 pub run-ends : {s : List ℕ} {at : ℕ} → AsciiStart s at → length s ≤ at → AsciiRun s at
 run-ends h l = record { start = h; some = λ p _. omega arith }
 
+-- ASCII is UTF-8
 text : (n : ℕ) (s : List ℕ) → n ≤ length s → AsciiTo s n → Utf8 (take n s)
 text zero s l h = none
 text (suc n) [] l h = absurd (omega arith)

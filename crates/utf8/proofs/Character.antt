@@ -18,6 +18,7 @@ both-no : (p : Bool) → both p false ≡ false
 both-no true = refl
 both-no false = refl
 
+-- a text that is too short does not begin with these ranges
 short : (rs : List (ℕ × ℕ)) (t : List ℕ) → length t < length rs → begins rs t ≡ false
 unfolding begins
 short [] t h = absurd (omega arith)
@@ -33,6 +34,7 @@ abbrev pub each : List (ℕ × ℕ) → List ℕ → ℕ → Bool
 each [] s k = true
 each (r ∷ rs) s k = both (inRange r (getD s k 0)) (each rs s (k + 1))
 
+-- a text that is long enough begins with them where each byte is in its range
 full : (rs : List (ℕ × ℕ)) (s : List ℕ) (k : ℕ) → k + length rs ≤ length s → begins rs (drop k s) ≡ each rs s k
 unfolding begins
 full [] s k h = refl
@@ -47,7 +49,7 @@ long-enough rs s h = simp (full rs s 1 (omega arith))
 pub lead-3 : {a : ℕ} → In 0xE1 0xEF a → (a ≡ 0xED → ⊥) → (t : List ℕ) → charLength (a ∷ t) ≡ pick (begins (tail ∷ tail ∷ []) t) 3 0
 lead-3 {a} h n t = ⊎-elim (λ l. lead-E1 (h .0, omega arith) t) (λ l. lead-EE (omega arith, h .1) t) (cut a 0xED)
 
--- the length of the character, by its first byte
+-- what is found for the first byte and what follows it is found for the text
 pub by-lead : {a : ℕ} (s : List ℕ) {n : ℕ} → Lead a s → charLength (a ∷ drop 1 s) ≡ n → n ≡ charLength s
 by-lead [] h e = absurd (omega (arith, h .some))
 by-lead (b ∷ s) h e = sym e ∙ ap (λ (x : ℕ). charLength (x ∷ s)) (h .is)

@@ -18,7 +18,7 @@ use Rattle.utf8.specs.Fit.{Fits, FitTo, AllFit, Fitting, FitStart, unfin
 use Rattle.utf8.proofs.Valid.{part-at}
 use Rattle.utf8.proofs.Tests.{cut, and-other, same}
 
--- ---- one byte: what the tests of `fits_after` say
+-- ---- one byte: the tests of `fits_after`, and what they say
 abbrev pub goesOn : ℕ → ℕ → ℕ → Bool
 goesOn a b c = leb 0xF0 a || leb 0xE0 b || leb 0xC0 c
 
@@ -70,7 +70,7 @@ fits a b c d e =
         ⊎-elim inl (λ l. inr (omega (arith, f l, ltb-false 0xF4 d h, eqb-false d 0xC0 n0, eqb-false d 0xC1 n1))) (cut d 0x80)
 
 -- ---- many bytes
--- ASCII fits after ASCII
+-- ASCII fits after ASCII, and at the start
 ascii-fits : (a b c d : ℕ) → a < 0x80 → b < 0x80 → c < 0x80 → d < 0x80 → Fits a b c d
 ascii-fits a b c d x y z w = record {
   in-four = λ h. absurd (omega arith);
@@ -131,6 +131,7 @@ data Open : ℕ → ℕ → ℕ → List ℕ → Type 0 where
   after-two : {o a b c : ℕ} → In 0xE0 0xF4 b → Fits o a b c → Tail c → Open a b c (b ∷ c ∷ [])
   after-three : {n o a b c : ℕ} → In 0xF0 0xF4 a → Fits n o a b → Tail b → Tail c → Open a b c (a ∷ b ∷ c ∷ [])
 
+-- `unfinished` finds the length of what is begun
 open-size : {a b c : ℕ} {p : List ℕ} → Open a b c p → unfinishedOf a b c ≡ length p
 unfolding unfinishedOf
 open-size {a} {b} {c} (shut x y z) = simp (lt-leb 0xF0 a x, lt-leb 0xE0 b y, lt-leb 0xC0 c z)
@@ -138,6 +139,7 @@ open-size {a} {b} {c} (after-one x h) = simp (le-leb 0xC0 c (omega arith))
 open-size {a} {b} {c} (after-two h f t) = simp (lt-leb 0xC0 c (omega arith), le-leb 0xE0 b (h .0))
 open-size {a} {b} {c} (after-three h f t u) = simp (lt-leb 0xC0 c (omega arith), lt-leb 0xE0 b (omega arith), le-leb 0xF0 a (h .0))
 
+-- the bytes of a character of three or four bytes, the second of which fits, are one
 char-3 : {o p a b c : ℕ} → In 0xE0 0xEF a → Fits o p a b → Tail b → Tail c → Utf8Char (a ∷ b ∷ c ∷ [])
 char-3 {a = a} {b} h f t u =
     ⊎-elim (λ l. utf8-3-E0 (h .0, omega arith) (f .after-E0 (omega arith), t .1) u)
@@ -153,13 +155,14 @@ char-4 {a = a} {b} h f t u v =
     (λ g. utf8-4-F4 (g, h .1) (t .0, f .after-F4 (omega arith)) u v)
     (cut a 0xF4)) (cut a 0xF1)
 
--- one more byte that fits ends the character, or goes on with it
+-- p is ended, or it goes on
 abbrev Grown : ℕ → ℕ → ℕ → List ℕ → Type 0
 Grown b c d p = (Utf8Char p × Open b c d []) ⊎ Open b c d p
 
 ends : (b c d : ℕ) {p : List ℕ} → Utf8Char p → b < 0xF0 → c < 0xE0 → d < 0xC0 → Grown b c d p
 ends b c d h x y z = inl (h, shut x y z)
 
+-- one byte more that fits ends the character that is begun, or goes on with it
 grow : {a b c d : ℕ} {p : List ℕ} → Open a b c p → Fits a b c d → Grown b c d (p ++ d ∷ [])
 grow {b = b} {c} {d} (shut x y z) f =
     ⊎-elim (λ l. ends b c d (utf8-1 (omega arith, omega arith)) (omega arith) (omega arith) (omega arith))
@@ -203,6 +206,7 @@ FitsAt z k = Fits (getD z k 0) (getD z (suc k) 0) (getD z (suc (suc k)) 0) (getD
 abbrev unfinishedAt : List ℕ → ℕ → ℕ
 unfinishedAt z k = unfinishedOf (getD z k 0) (getD z (suc k) 0) (getD z (suc (suc k)) 0)
 
+-- where each of the first n bytes of s fits, they are UTF-8 and what is unfinished
 cut-at : (n : ℕ) (s : List ℕ) {a b c : ℕ} {p : List ℕ} → n ≤ length s → Open a b c p → ((k : ℕ) → k < n → FitsAt (a ∷ b ∷ c ∷ s) k)
     → Cut (p ++ take n s) (unfinishedAt (a ∷ b ∷ c ∷ s) n)
 cut-at zero s {p = p} l o h = record { whole = []; part = p; is = append-nil p; good = none; size = open-size o }
@@ -213,6 +217,7 @@ cut-at (suc n) (d ∷ s) {b = b} {c} {p} l o h =
     rw (← append-snoc p d (take n s))
     (⊎-elim (λ e. char-cut (e .0) (cut-at n s m (e .1) g)) (λ q. cut-at n s m q g) (grow o (h 0 (omega arith))))
 
+-- three, two and one places before
 less-3 : (k : ℕ) → suc (suc (suc k)) - 3 ≡ k
 less-3 k = omega arith
 
@@ -222,6 +227,7 @@ less-2 k = omega arith
 less-1 : (k : ℕ) → suc (suc (suc k)) - 1 ≡ suc (suc k)
 less-1 k = omega arith
 
+-- a text fits from its start on as if zeros stood before it
 from-start : (s : List ℕ) (n : ℕ) → FitStart (getD s 0 0) (getD s 1 0) (getD s 2 0) → FitTo s n → (k : ℕ) → k < n → FitsAt (0 ∷ 0 ∷ 0 ∷ s) k
 from-start s n g h zero l = g .first
 from-start s n g h (suc zero) l = g .second

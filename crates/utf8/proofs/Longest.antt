@@ -1,4 +1,4 @@
--- A step, and the longest valid beginning by steps. Assumes nothing.
+-- What makes a step, and the longest valid beginning by steps. Assumes nothing.
 use Prim.Native.Nat.{ℕ, _+_, _-_, _<_}
 use mathlib.Core.Path.{_≡_, sym, _∙_}
 use mathlib.Core.Logic.{⊎-elim}
@@ -13,6 +13,7 @@ use Rattle.utf8.specs.Ascii.{AsciiRun}
 use Rattle.utf8.proofs.Valid.{rest-of, empty, onward}
 use Rattle.utf8.proofs.Ascii.{ascii-valid}
 
+-- no step where nothing is left; a run of ASCII; one character, or none
 pub nothing-left : (s : List ℕ) → length s ≡ 0 → Step s 0
 nothing-left [] e = record { valid = empty []; stuck = λ _. char-none }
 nothing-left (a ∷ s) e = absurd (omega arith)
@@ -26,7 +27,7 @@ character-step {s} {n} e =
     (λ b. record { valid = record { within = rw e (b .0); good = rw e (one (b .1)) }; stuck = λ z. sym e ∙ z })
     (char-found s)
 
--- the code lends what is left of s as this part of it
+-- after a step what is passed is valid; where no step can be made it is the longest. The code lends what is left of s as this part of it
 pub turn : {s : List ℕ} {at n : ℕ} → Valid s at → Step (take (length s - at) (drop at s)) n → Valid s (at + n)
 turn {s} {at} {n} h g = onward h (rw rest-of at (g .valid))
 
@@ -34,5 +35,6 @@ pub end : {s : List ℕ} {at n : ℕ} → Valid s at → Step (take (length s - 
 end {s} {at} h g z =
     rw add-zero at (past s at 0 (h .within) (h .good) (stop (drop at s) (rw rest-of at (g .stuck z))))
 
+-- the longest beginning may be looked for from any valid one on
 pub longest-on : {s : List ℕ} {at n : ℕ} → Valid s at → Longest (take (length s - at) (drop at s)) n → Longest s (at + n)
 longest-on {s} {at} {n} h g = past s at n (h .within) (h .good) (rw rest-of at g)

@@ -6,6 +6,7 @@ use mathlib.Core.Logic.{_⊎_, inl, inr, ⊎-elim}
 use native.Mathlib.Omega.{arith}
 use native.Mathlib.Nat.{eq-zero-or-pos}
 
+-- a is below n or not
 pub cut : (a n : ℕ) → (a < n) ⊎ (n ≤ a)
 cut a n = ⊎-elim (λ z. inr (omega arith)) (λ p. inl (omega arith)) (eq-zero-or-pos (n - a))
 

@@ -1,4 +1,4 @@
--- Valid beginnings, one after the other; and parts of a text. Assumes nothing.
+-- Parts of a text, and valid beginnings one after the other. Assumes nothing.
 use Prim.Native.Nat.{ℕ, _+_, _-_, _≤_, _<_}
 use mathlib.Core.Path.{_≡_}
 use mathlib.Core.List.{List}
@@ -13,10 +13,11 @@ use Rattle.utf8.specs.Valid.{Valid}
 pub rest-of : (s : List ℕ) (at : ℕ) → take (length s - at) (drop at s) ≡ drop at s
 rest-of s at = take-all (length s - at) (drop at s) (omega (arith, length-drop at s))
 
--- what stands at place i of s stands in a part of s that begins at place a
+-- a part of s that begins at place a has at i - a what s has at i
 pub part-at : (s : List ℕ) (a m i : ℕ) → a ≤ i → i - a < m → getD (take m (drop a s)) (i - a) 0 ≡ getD s i 0
 part-at s a m i l h = let e : a + (i - a) ≡ i = omega arith in rw (getD-take, getD-drop, e)
 
+-- the empty beginning is valid
 pub empty : (s : List ℕ) → Valid s 0
 empty s = record { within = omega arith; good = none }
 

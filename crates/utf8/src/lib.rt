@@ -1,5 +1,5 @@
-// The name check: UTF-8 as RFC 3629 has it. A long name is passed by blocks of 64 bytes, tested with no early exit, so that the compiler
-// tests many bytes at once; what is left is passed character by character.
+// The name check: UTF-8 as RFC 3629 has it. A long name is passed by blocks of 64 bytes, which are tested with no early exit, so that
+// the compiler can test many bytes at once; what is left is passed character by character.
 ghost use mathlib.Core.Path.{_≡_};
 ghost use mathlib.Core.Bool.{true};
 ghost use mathlib.Core.List.{[], _∷_};
@@ -11,7 +11,7 @@ ghost use Rattle.utf8.specs.Ascii.{Ascii, AsciiStart, AsciiRun};
 ghost use Rattle.utf8.specs.Character.{Lead, sized};
 ghost use Rattle.utf8.specs.Fit.{Fits, AllFit, Fitting, FitStart, unfinishedOf};
 
-// Whether every byte is ASCII, below 0x80. An empty text is.
+// Whether every byte of s is ASCII, below 0x80; of an empty s too.
 fn all_ascii(s: &[u8]) -> bool
     ensures { λ r. ⌜ (r ≡ true → Ascii (now (s .entry))) ⌝ }
 {
@@ -24,7 +24,8 @@ fn all_ascii(s: &[u8]) -> bool
     bits < 0x80
 }
 
-// How many bytes the blocks of ASCII take, each of `size` bytes, with which s begins. 0 where the first is not ASCII, or s is shorter.
+// How many bytes the blocks of ASCII take with which s begins, each of `size` bytes. 0 where the first block is not ASCII, or s is
+// shorter than a block.
 fn ascii_blocks(s: &[u8], size: usize) -> usize
     requires { ⌜ 0 < size ⌝ }
     ensures { λ r. ⌜ AsciiStart (now (s .entry)) r ⌝ }
@@ -61,7 +62,7 @@ fn in_range(low: u8, high: u8, b: u8) -> bool
     (low <= b) & (b <= high)
 }
 
-// 2 where the second byte of s can be a character's last, else 0, also where s has no second byte. The first byte is not looked at.
+// 2 where the second byte of s is from 0x80 to 0xBF, else 0, also where there is none. The first byte is not looked at.
 fn two_bytes(s: &[u8]) -> usize
     ensures { λ r. ⌜ r ≡ sized (tail ∷ []) (now (s .entry)) ⌝ }
 {
@@ -74,7 +75,8 @@ fn two_bytes(s: &[u8]) -> usize
     2
 }
 
-// 3 where the second byte of s is from low to high, and the third can be a character's last; else 0, also where s ends before that.
+// 3 where the second byte of s is from low to high and the third from 0x80 to 0xBF, else 0, also where s ends before.
+// The first byte is not looked at.
 fn three_bytes(low: u8, high: u8, s: &[u8]) -> usize
     ensures { λ r. ⌜ r ≡ sized ((low, high) ∷ tail ∷ []) (now (s .entry)) ⌝ }
 {
@@ -90,7 +92,8 @@ fn three_bytes(low: u8, high: u8, s: &[u8]) -> usize
     3
 }
 
-// 4 where the second byte of s is from low to high, and the next two can follow it; else 0, also where s ends before that.
+// 4 where the second byte of s is from low to high and the next two are from 0x80 to 0xBF, else 0, also where s ends before.
+// The first byte is not looked at.
 fn four_bytes(low: u8, high: u8, s: &[u8]) -> usize
     ensures { λ r. ⌜ r ≡ sized ((low, high) ∷ tail ∷ tail ∷ []) (now (s .entry)) ⌝ }
 {
@@ -109,7 +112,8 @@ fn four_bytes(low: u8, high: u8, s: &[u8]) -> usize
     4
 }
 
-// 3 where s begins with a character of three bytes, else 0; its first byte, `lead`, says that it has three. No overlong form, no surrogate.
+// 3 where s begins with a character of three bytes, else 0; `lead`, its first byte, is from 0xE0 to 0xEF.
+// Overlong forms and surrogates are no characters.
 fn three_byte_character(lead: u8, s: &[u8]) -> usize
     requires { ⌜ Lead lead (now s) × In 0xE0 0xEF lead ⌝ }
     ensures { λ r. ⌜ r ≡ charLength (now (s .entry)) ⌝ }
@@ -123,7 +127,8 @@ fn three_byte_character(lead: u8, s: &[u8]) -> usize
     three_bytes(0x80, 0xBF, s)
 }
 
-// 4 where s begins with a character of four bytes, else 0; its first byte, `lead`, is 0xF0 or more. No overlong form, none above 10FFFF.
+// 4 where s begins with a character of four bytes, else 0; `lead`, its first byte, is 0xF0 or more.
+// Overlong forms and what lies above 10FFFF are no characters.
 fn four_byte_character(lead: u8, s: &[u8]) -> usize
     requires { ⌜ Lead lead (now s) × (0xF0 ≤ lead) ⌝ }
     ensures { λ r. ⌜ r ≡ charLength (now (s .entry)) ⌝ }
@@ -140,7 +145,7 @@ fn four_byte_character(lead: u8, s: &[u8]) -> usize
     0
 }
 
-// The length of the character of more than one byte with which s begins, 0 where none does; `lead`, its first byte, is not ASCII.
+// The length of the character with which s begins, 0 where none does; `lead`, its first byte, is not ASCII.
 fn long_character(lead: u8, s: &[u8]) -> usize
     requires { ⌜ Lead lead (now s) × (0x80 ≤ lead) ⌝ }
     ensures { λ r. ⌜ r ≡ charLength (now (s .entry)) ⌝ }
@@ -157,7 +162,7 @@ fn long_character(lead: u8, s: &[u8]) -> usize
     four_byte_character(lead, s)
 }
 
-// The length of a run of ASCII or of one longer character, with which s begins. 0 where no character begins s, or s is empty.
+// The length of a run of ASCII, or of one longer character, with which s begins. 0 where no character begins s, or s is empty.
 fn step(s: &[u8]) -> usize
     ensures { λ r. ⌜ Step (now (s .entry)) r ⌝ }
 {
@@ -171,7 +176,7 @@ fn step(s: &[u8]) -> usize
     long_character(lead, s)
 }
 
-// The length of the longest beginning of s that is UTF-8, step by step.
+// The length of the longest beginning of s that is UTF-8, found step by step.
 fn by_characters(s: &[u8]) -> usize
     ensures { λ r. ⌜ Longest (now (s .entry)) r ⌝ }
 {
@@ -185,8 +190,8 @@ fn by_characters(s: &[u8]) -> usize
     }
 }
 
-// Whether d can stand right after a, b and c: inside a character where one of them says that it goes on, else at the start of one.
-// No branch, so that many bytes are tested at once.
+// Whether d can stand right after a, b and c: inside a character where one of them says that a character goes on, else at the start
+// of one. No branch, so that the compiler can test many bytes at once.
 fn fits_after(a: u8, b: u8, c: u8, d: u8) -> bool
     ensures { λ r. ⌜ (r ≡ true → Fits a b c d) ⌝ }
 {
@@ -199,7 +204,7 @@ fn fits_after(a: u8, b: u8, c: u8, d: u8) -> bool
     (goes_on == inside) & !(never | overlong | surrogate | too_large)
 }
 
-// Whether each byte of s from the fourth on fits after the three before it.
+// Whether each byte of s from the fourth on fits after the three before it; also where there is no fourth.
 fn all_fit(s: &[u8]) -> bool
     ensures { λ r. ⌜ (r ≡ true → AllFit (now (s .entry))) ⌝ }
 {
@@ -212,7 +217,7 @@ fn all_fit(s: &[u8]) -> bool
     fit
 }
 
-// The same, sooner where all of s is ASCII.
+// The same as `all_fit`, sooner where all of s is ASCII.
 fn block_fits(s: &[u8]) -> bool
     ensures { λ r. ⌜ (r ≡ true → AllFit (now (s .entry))) ⌝ }
 {
@@ -222,7 +227,8 @@ fn block_fits(s: &[u8]) -> bool
     all_fit(s)
 }
 
-// How far the bytes of s fit, by blocks of 64 from `from` on: up to there they do.
+// Up to where the bytes of s fit, by blocks of 64: up to `from` they do. It ends before the first block of which a byte does not fit,
+// or where less than a block is left.
 fn fitting_blocks(s: &[u8], from: usize) -> usize
     requires { ⌜ Fitting (now s) from ⌝ }
     ensures { λ r. ⌜ Fitting (now (s .entry)) r ⌝ }
@@ -239,14 +245,14 @@ fn fitting_blocks(s: &[u8], from: usize) -> usize
     at
 }
 
-// Whether a, b and c fit where a text begins.
+// Whether a, b and c fit at the start of a text, as if zeros stood before it.
 fn start_fits(a: u8, b: u8, c: u8) -> bool
     ensures { λ r. ⌜ (r ≡ true → FitStart a b c) ⌝ }
 {
     fits_after(0, 0, 0, a) & fits_after(0, 0, a, b) & fits_after(0, a, b, c)
 }
 
-// How many of a, b and c, with which a text ends, belong to a character that goes on after them: 0 to 3.
+// How many of a, b and c, the last bytes of a text, belong to a character that goes on after them: 0 to 3.
 fn unfinished(a: u8, b: u8, c: u8) -> usize
     ensures { λ r. ⌜ (r ≡ unfinishedOf a b c) × (r ≤ 3) ⌝ }
 {
@@ -262,8 +268,8 @@ fn unfinished(a: u8, b: u8, c: u8) -> usize
     0
 }
 
-// How many bytes of s fit, from its start on: the `ascii` bytes that are known to be ASCII, where they are a block or more, else its
-// first three; 0 where those do not fit.
+// Up to where the bytes of s fit, before a block is tested: the `ascii` bytes with which s begins where they are a block or more,
+// else its first three bytes. 0 where those do not fit.
 fn fitting_start(s: &[u8], ascii: usize) -> usize
     requires { ⌜ AsciiStart (now s) ascii × (3 ≤ length (now s)) ⌝ }
     ensures { λ r. ⌜ (0 < r → Fitting (now (s .entry)) r) ⌝ }
@@ -277,13 +283,13 @@ fn fitting_start(s: &[u8], ascii: usize) -> usize
     0
 }
 
-// How many bytes the whole characters take that the blocks hold with which s begins: those of ASCII, then those that fit. 0 where s is
-// shorter than a block.
+// How many bytes the whole characters take in the blocks with which s begins: those of ASCII, then those of which each byte fits.
+// 0 where s is shorter than a block.
 fn by_blocks(s: &[u8]) -> usize
     ensures { λ r. ⌜ Valid (now (s .entry)) r ⌝ }
 {
     let ascii = ascii_blocks(s, 64);
-    if s.len() - ascii < 67 {
+    if s.len() - ascii < 64 {
         return ascii;
     }
     let start = fitting_start(s, ascii);
