@@ -1,4 +1,4 @@
--- The first byte of a routine message: the codes of the three sub-functions, the "suppress" bit, and the else arm of who asked for them.
+-- The first byte of a routine message: the codes of the three sub-functions, and the "suppress" bit.
 -- Assumes nothing.
 use mathlib.Core.Path.{_≡_, refl, sym, ap, _∙_}
 use mathlib.Core.Bool.{Bool}
@@ -9,8 +9,6 @@ use lib.Dec.{leb}
 use Rattle.paper.specs.Answer.{Answer, accepted, refused, unknownSubFunction}
 use Rattle.paper.specs.Kind.{oneOf}
 use Rattle.paper.specs.RoutineControl.{SubFunction, startRoutine, stopRoutine, requestRoutineResults, byteOf, knownSub}
-use Rattle.wire.specs.Refusals.{row}
-use Rattle.wire.specs.declared.refusal.Refusal.{Refusal}
 use Rattle.routine_control.specs.SubFunction.{Control, controlOf, suppressable}
 
 -- ---- the codes
@@ -31,14 +29,6 @@ pub small-code : (f : SubFunction) → byteOf f ≤ 127
 small-code startRoutine = omega arith
 small-code stopRoutine = omega arith
 small-code requestRoutineResults = omega arith
-
--- ---- the else arm
--- x is an answer of which a callee promised what it says; it is the refusal e, and r is what `x.refusal()` handed back
-pub left : {X A : Type 0} (said : X → Answer A) (refusal : X → Refusal) (made : Refusal → X)
-    → ((e : Refusal) → (said (made e) ≡ refused (row e)) × (refusal (made e) ≡ e)) → {paper : Answer A} {x : X} {e r : Refusal}
-    → said x ≡ paper → x ≡ made e → r ≡ refusal x → refused (row r) ≡ paper
-left said refusal made of {e = e} promised is from =
-    ap (λ (i : Refusal). refused (row i)) (from ∙ ap refusal is ∙ of e .1) ∙ sym (of e .0) ∙ sym (ap said is) ∙ promised
 
 -- ---- the "suppress" bit
 -- what is said of the low seven bits

@@ -14,3 +14,10 @@ pub left : {A M : Type 0} {meaning : A → M} {field : Reader M} {Place : A → 
     → Right A M meaning field Place s at x → x ≡ stopped e → r ≡ refusalIn x → refused (row r) ≡ field (drop at s)
 left {A} {M} {meaning} {s = s} right is from =
     ap (λ (i : Refusal). refused (row i)) (from ∙ ap refusalIn is) ∙ sym (ap (said meaning s) is) ∙ right .paper
+
+-- the same of an answer with no place in the message: `said` and `refusal` are what it says and hands back, `made` is its refusal
+pub left-answer : {X A : Type 0} (said : X → Answer A) (refusal : X → Refusal) (made : Refusal → X)
+    → ((e : Refusal) → (said (made e) ≡ refused (row e)) × (refusal (made e) ≡ e)) → {paper : Answer A} {x : X} {e r : Refusal}
+    → said x ≡ paper → x ≡ made e → r ≡ refusal x → refused (row r) ≡ paper
+left-answer said refusal made of {e = e} promised is from =
+    ap (λ (i : Refusal). refused (row i)) (from ∙ ap refusal is ∙ of e .1) ∙ sym (of e .0) ∙ sym (ap said is) ∙ promised

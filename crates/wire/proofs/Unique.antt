@@ -188,11 +188,12 @@ two-sizes-at-determined κs a x y =
     seenTwoSizes twoSizesAnswerOf two-sizes-again
 
 -- ---- parts of the message
-abbrev placeAnswerOf : Seen Place → PlaceAnswer
+-- a place's answer, and back
+abbrev pub placeAnswerOf : Seen Place → PlaceAnswer
 placeAnswerOf (found p next) = PlaceAnswer.Accepted p next
 placeAnswerOf (stopped e) = PlaceAnswer.Refused e
 
-place-again : (r : PlaceAnswer) → placeAnswerOf (seenPlace r) ≡ r
+pub place-again : (r : PlaceAnswer) → placeAnswerOf (seenPlace r) ≡ r
 place-again (PlaceAnswer.Accepted p next) = refl
 place-again (PlaceAnswer.Refused e) = refl
 

@@ -10,7 +10,8 @@ use Rattle.paper.specs.RoutineControl.{SubFunction, RoutineRequest, RoutineByte
 use Rattle.routine_control.specs.SubFunction.{suppressSaid, suppressRefusal}
 use Rattle.routine_control.specs.Request.{routineRequest}
 use Rattle.routine_control.specs.declared.sub_function.SuppressableAnswer.{SuppressableAnswer}
-use Rattle.routine_control.proofs.Codes.{left, low-bits, top-bit}
+use Rattle.wire.proofs.Left.{left-answer}
+use Rattle.routine_control.proofs.Codes.{low-bits, top-bit}
 use Rattle.routine_control.proofs.Cases.{too-few, no-sub, whole}
 use borrow.Author.Needs.{needs}
 use Rattle.routine_control.proofs.request.read_routine_request.Statement.{statement}
@@ -31,7 +32,7 @@ unfolding readRoutineRequest
 returns-2 c =
     let m = c .before .before .before in
     let s = m .before .before .before .before .args .s .now in
-    let e = left suppressSaid suppressRefusal SuppressableAnswer.Refused (λ e. (refl, refl)) (m .from-byte .ensures) (c .before .enum-told .given .1) (c .refusal .ensures) in
+    let e = left-answer suppressSaid suppressRefusal SuppressableAnswer.Refused (λ e. (refl, refl)) (m .from-byte .ensures) (c .before .enum-told .given .1) (c .refusal .ensures) in
     record { paper = no-sub low requestOf s (omega arith) (low-bits (getD s 0 0) e); place = tt }
 
 returns-3 : tie.Need-returns-3

@@ -8,7 +8,7 @@ use Rattle.paper.specs.RoutineControl.{SubFunction, RoutineResponse, RoutineByt
 use Rattle.routine_control.specs.SubFunction.{subSaid, subRefusal}
 use Rattle.routine_control.specs.Response.{routineResponse}
 use Rattle.routine_control.specs.declared.sub_function.SubFunctionAnswer.{SubFunctionAnswer}
-use Rattle.routine_control.proofs.Codes.{left}
+use Rattle.wire.proofs.Left.{left-answer}
 use Rattle.routine_control.proofs.Cases.{too-few, no-sub, whole}
 use borrow.Author.Needs.{needs}
 use Rattle.routine_control.proofs.response.read_routine_response.Statement.{statement}
@@ -32,7 +32,7 @@ returns-2 c =
     record {
       paper =
           no-sub all responseOf s (omega arith)
-          (left subSaid subRefusal SubFunctionAnswer.Refused (λ e. (refl, refl)) (m .from-byte .ensures) (c .before .enum-told .given .1) (c .refusal .ensures));
+          (left-answer subSaid subRefusal SubFunctionAnswer.Refused (λ e. (refl, refl)) (m .from-byte .ensures) (c .before .enum-told .given .1) (c .refusal .ensures));
       place = tt;
     }
 

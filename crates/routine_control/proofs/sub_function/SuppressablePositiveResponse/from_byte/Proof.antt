@@ -4,7 +4,7 @@ use mathlib.Core.Path.{refl, ap, sym, _∙_}
 use lib.Dec.{leb}
 use Rattle.routine_control.specs.SubFunction.{subSaid, subRefusal, controlOf, suppressable}
 use Rattle.routine_control.specs.declared.sub_function.SubFunctionAnswer.{SubFunctionAnswer}
-use Rattle.routine_control.proofs.Codes.{left}
+use Rattle.wire.proofs.Left.{left-answer}
 use borrow.Author.Needs.{needs}
 use Rattle.routine_control.proofs.sub_function.SuppressablePositiveResponse.from_byte.Statement.{statement}
 use Rattle.routine_control.proofs.sub_function.SuppressablePositiveResponse.from_byte.Tie as tie
@@ -25,7 +25,7 @@ returns : tie.Need-returns
 unfolding suppressable
 returns c =
     let b = c .before .before .before .before .args .b in
-    ap (controlOf (leb 128 b)) (left subSaid subRefusal SubFunctionAnswer.Refused (λ e. (refl, refl)) (c .before .before .before .from-byte .ensures) (c .before .enum-told .given .1) (c .refusal .ensures))
+    ap (controlOf (leb 128 b)) (left-answer subSaid subRefusal SubFunctionAnswer.Refused (λ e. (refl, refl)) (c .before .before .before .from-byte .ensures) (c .before .enum-told .given .1) (c .refusal .ensures))
 
 returns-2 : tie.Need-returns-2
 unfolding suppressable
