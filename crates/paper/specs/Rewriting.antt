@@ -4,7 +4,7 @@ use mathlib.Core.Path.{_≡_}
 use mathlib.Core.List.{List, [], _++_}
 use mathlib.Core.Logic.{_↔_}
 use lib.ListN.{length}
-use Rattle.paper.specs.Answer.{Answer, accepted, _leaving_, Reader, _>>=_, handOut}
+use Rattle.paper.specs.Answer.{Answer, accepted, refused, Read, _leaving_, Reader, _>>=_, handOut, written}
 use Rattle.paper.specs.Bytes.{Bytes}
 
 -- accepted with value m and tail t, exactly if it is one of m's ways of being written followed by t
@@ -26,6 +26,20 @@ unfoldable pub rewriting : {A : Type 0} → Reader A → (A → Answer (List ℕ
 rewriting read write = do
   m ← read
   handOut (write m)
+
+-- what a rewriting call does: it answers the number of bytes written and the tail, or a refusal, and leaves the whole buffer with these contents
+pub record RewrittenInto : Type 0 where
+  pub answer : Answer (Read ℕ)
+  pub contents : List ℕ
+
+abbrev pub tailBeside : List ℕ → Answer ℕ → Answer (Read ℕ)
+tailBeside t (accepted n) = accepted (n leaving t)
+tailBeside t (refused r) = refused r
+
+-- the reader's refusals first, and then the rewritten message is written into the buffer
+abbrev pub rewrittenInto : Answer (Read (List ℕ)) → List ℕ → RewrittenInto
+rewrittenInto (refused r) room = record { answer = refused r; contents = room }
+rewrittenInto (accepted (u leaving t)) room = record { answer = tailBeside t (written (accepted u) room .answer); contents = written (accepted u) room .contents }
 
 -- s is rewritten to u, with nothing left over
 pub record Rewritten (rewrite : Reader (List ℕ)) (s u : List ℕ) : Type 0 where

@@ -1,0 +1,6 @@
+pub mod Modes
+pub mod Lengths
+pub mod Rewrites
+pub mod UniqueRewriting
+pub mod Demand
+pub mod Unique

@@ -1,0 +1,40 @@
+-- Demand 3 in terms of calls: what reading and rewriting promise of the messages of one sort.
+-- `Reads s x`: a call of the reader, lent the message s, answered x (the record and where the tail begins, or a refusal).
+-- `Rewrites s room r after`: a call of the rewriter, lent the message s and a buffer that held `room`, answered r and left the buffer holding `after`.
+-- `Same s q t p`: the record q, read from s, and the record p, read from t, say the same.
+use mathlib.Core.Path.{_≡_}
+use Prim.Native.Nat.{ℕ, _≤_}
+use mathlib.Core.List.{List}
+use mathlib.Core.Logic.{_↔_}
+use lib.ListN.{length, take}
+use Rattle.paper.specs.Bytes.{Bytes}
+use Rattle.wire.specs.Reading.{Seen, found}
+use Rattle.file_operation.specs.declared.rewrite.RewriteAnswer.{RewriteAnswer}
+
+-- the message s was accepted with nothing left over, and q is what was read
+pub record Whole (Q : Type 0) (Reads : List ℕ → Seen Q → Type 0) (s : List ℕ) (q : Q) : Type 0 where
+  pub bytes : Bytes s
+  pub read : Reads s (found q (length s))
+
+-- the message s was rewritten to u: that many bytes were written into some buffer, and they are u
+pub record Became (Rewrites : List ℕ → List ℕ → RewriteAnswer → List ℕ → Type 0) (s u : List ℕ) : Type 0 where
+  pub room : List ℕ
+  pub after : List ℕ
+  pub tail : ℕ
+  pub rewrote : Rewrites s room (RewriteAnswer.Accepted (length u) tail) after
+  pub front : take (length u) after ≡ u
+
+pub record Demand3 (Q : Type 0) (Reads : List ℕ → Seen Q → Type 0) (Rewrites : List ℕ → List ℕ → RewriteAnswer → List ℕ → Type 0)
+    (Same : List ℕ → Q → List ℕ → Q → Type 0) : Type 0 where
+  -- rewriting a message is not refused where the room is as long as the message
+  pub always : {s room after : List ℕ} {q : Q} {r : RewriteAnswer} → Whole Q Reads s q → length s ≤ length room → Rewrites s room r after → (u : List ℕ) × Became Rewrites s u × (r ≡ RewriteAnswer.Accepted (length u) (length s))
+  -- two messages say the same exactly if rewriting gives the same bytes
+  pub same : {s t u v : List ℕ} {q p : Q} → Whole Q Reads s q → Whole Q Reads t p → Became Rewrites s u → Became Rewrites t v → Same s q t p ↔ (u ≡ v)
+  -- whoever reads the rewritten message accepts it with nothing left over, and it says the same
+  pub kept : {s u : List ℕ} {q : Q} {x : Seen Q} → Whole Q Reads s q → Became Rewrites s u → Reads u x → (p : Q) × (x ≡ found p (length u)) × Same s q u p
+  -- rewriting a rewritten message changes nothing
+  pub settled : {s u v : List ℕ} {q : Q} → Whole Q Reads s q → Became Rewrites s u → Became Rewrites u v → v ≡ u
+  -- the rewritten message is the shortest that says the same
+  pub shortest : {s t u : List ℕ} {q p : Q} → Whole Q Reads s q → Became Rewrites s u → Whole Q Reads t p → Same s q t p → length u ≤ length t
+  -- and no other is as short
+  pub no-other : {s t u : List ℕ} {q p : Q} → Whole Q Reads s q → Became Rewrites s u → Whole Q Reads t p → Same s q t p → length t ≡ length u → t ≡ u

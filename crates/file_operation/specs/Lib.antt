@@ -1,0 +1,4 @@
+pub mod Mode
+pub mod Writing
+pub mod Rewriting
+pub mod Calls

@@ -1,0 +1,124 @@
+-- The bytes of a request: the mode, the name after its count, and what its kind has after the name.
+-- Assumes nothing.
+use mathlib.Core.Path.{_≡_, refl, ap, sym, _∙_}
+use Prim.Native.Nat.{ℕ, _+_, _≤_, _<_}
+use mathlib.Core.Bool.{Bool, true, false}
+use mathlib.Core.List.{List, [], _∷_, _++_}
+use native.Mathlib.Omega.{arith}
+use borrow.Author.Tests.{le-leb, leb-true}
+use lib.Dec.{leb}
+use lib.ListN.{length, length-append}
+use Rattle.paper.specs.Answer.{Answer, accepted, refused, wrongFormat, check}
+use Rattle.paper.specs.Utf8.{isUtf8}
+use Rattle.paper.specs.Kind.{modeOf}
+use Rattle.paper.specs.Sizes.{width}
+use Rattle.paper.specs.Field.{withCount}
+use Rattle.paper.specs.Request.{Request, AfterName, formatAndSizes, nothing, formatOnly, afterName, requestSizes, writeAfterName, requestAt, requestBytes, writeRequest}
+use Rattle.wire.specs.Refusals.{row}
+use Rattle.wire.specs.Writing.{Wrote, Filled, countedRun, sizesOut}
+use Rattle.wire.specs.declared.refusal.Refusal.{Refusal}
+use Rattle.wire.specs.declared.write.WriteAnswer.{WriteAnswer}
+use Rattle.wire.proofs.LowBytes.{length-counted, counted-good}
+use Rattle.wire.proofs.Over.{rest, back, filled-more, filled-as}
+use Rattle.wire.proofs.Writes.{writes, passed, filled}
+use Rattle.file_operation.specs.Mode.{kindOf}
+use Rattle.file_operation.specs.Writing.{lengthIn}
+use Rattle.file_operation.proofs.Lengths.{same-refusal, same-number}
+use Rattle.file_operation.specs.declared.mode.FileOperationMode.{FileOperationMode}
+use Rattle.file_operation.specs.declared.payload.SizePayload.{SizePayload}
+use Rattle.request_file_transfer.specs.Writing.{requestOf, restBytes}
+
+-- ---- what the length of a judged message says of its checks
+-- a message after its two checks
+abbrev judged : Bool → Bool → List ℕ → Answer (List ℕ)
+judged short utf8 bytes = check short wrongFormat (check utf8 wrongFormat (accepted bytes))
+
+-- both passed
+both-passed : (short utf8 : Bool) (bytes : List ℕ) {n : ℕ} → accepted n ≡ lengthIn (judged short utf8 bytes) → (short ≡ true) × (utf8 ≡ true) × (n ≡ length bytes)
+both-passed true true bytes e = (refl, refl, cc)
+both-passed true false bytes e = (refl, cc, cc)
+both-passed false utf8 bytes e = (cc, cc, cc)
+
+-- the checks do not look at the bytes
+same-length : (short utf8 : Bool) (bytes others : List ℕ) → length bytes ≡ length others → lengthIn (judged short utf8 bytes) ≡ lengthIn (judged short utf8 others)
+same-length true true bytes others e = ap accepted e
+same-length true false bytes others e = refl
+same-length false utf8 bytes others e = refl
+
+-- ---- a request, for a format byte
+module _ (kind : FileOperationMode) (name : List ℕ) (size : SizePayload) where
+  -- what is to be written, and what of it stands after the name
+  abbrev pub asked : ℕ → Request
+  asked f = requestOf kind name f size
+
+  abbrev pub after : ℕ → List ℕ
+  after f = restBytes (afterName (kindOf kind)) f size
+
+  -- the paper has the same after the name
+  rest-is : (f : ℕ) (h : AfterName) → writeAfterName (width (requestSizes (asked f))) h (asked f) ≡ restBytes h f size
+  unfolding sizesOut
+  rest-is f formatAndSizes = refl
+  rest-is f nothing = refl
+  rest-is f formatOnly = refl
+
+  -- the bytes, field by field
+  bytes-are : (f : ℕ) → requestBytes (asked f) ≡ modeOf (kindOf kind) ∷ (withCount 2 name ++ after f)
+  unfolding requestBytes requestAt
+  bytes-are f = rw (rest-is f (afterName (kindOf kind)))
+
+  -- how many they are
+  pub length-request : (f : ℕ) → length (requestBytes (asked f)) ≡ 3 + length name + length (after f)
+  length-request f = rw (bytes-are f) (omega (arith, length-append (withCount 2 name) (after f), length-counted 2 name))
+
+  -- whatever the format byte, as many stand after the name
+  any-format : (f : ℕ) (h : AfterName) → length (restBytes h f size) ≡ length (restBytes h 0 size)
+  any-format f formatAndSizes = refl
+  any-format f nothing = refl
+  any-format f formatOnly = refl
+
+  -- the checks passed: the message is the bytes
+  pub good : (f : ℕ) → length name ≤ 65535 → isUtf8 name ≡ true → writeRequest (asked f) ≡ accepted (requestBytes (asked f))
+  unfolding writeRequest
+  good f h u = rw (le-leb _ _ h, u)
+
+  module _ (f : ℕ) where
+    -- what an accepted length says of the request
+    pub record Measured (n : ℕ) : Type 0 where
+      pub short : length name ≤ 65535
+      pub utf8 : isUtf8 name ≡ true
+      pub long : n ≡ 3 + length name + length (after f)
+
+    -- it is as long as the one with the format byte 0, or refused alike
+    as-long : lengthIn (writeRequest (asked 0)) ≡ lengthIn (writeRequest (asked f))
+    unfolding writeRequest
+    as-long =
+        same-length (leb (length name) 65535) (isUtf8 name) (requestBytes (asked 0)) (requestBytes (asked f))
+        (omega (arith, length-request 0, length-request f, any-format f (afterName (kindOf kind))))
+
+    -- `needed` refused: writing is refused alike
+    pub off : {old : List ℕ} (e : Refusal) → refused (row e) ≡ lengthIn (writeRequest (asked 0)) → Wrote (writeRequest (asked f)) old (WriteAnswer.Refused e) old
+    off e said = same-refusal (writeRequest (asked f)) (said ∙ as-long)
+
+    module _ {n : ℕ} (said : accepted n ≡ lengthIn (writeRequest (asked 0))) where
+      -- `needed` accepted
+      pub on : Measured n
+      unfolding writeRequest
+      on =
+          let (short, utf8, long) = both-passed (leb (length name) 65535) (isUtf8 name) (requestBytes (asked 0)) said in
+          record { short = leb-true _ _ short; utf8 = utf8; long = omega (arith, length-request 0, any-format f (afterName (kindOf kind))) }
+
+      module _ {old : List ℕ} where
+        -- too little room
+        pub no-room : length old < n → Wrote (writeRequest (asked f)) old (WriteAnswer.Refused (Refusal.NoRoom n (length old))) old
+        no-room h = same-number (writeRequest (asked f)) (said ∙ as-long) h
+
+        -- each field in the room that begins where the previous one ended
+        pub laid-out : {x y z : List ℕ} {p q : WriteAnswer} {h : AfterName} → n ≤ length old → h ≡ afterName (kindOf kind)
+            → Wrote (accepted (modeOf (kindOf kind) ∷ [])) old p x → Wrote (countedRun 2 65535 name) (rest 1 x) q y → Filled (restBytes h f size) (rest (3 + length name) (back 1 x y)) z
+            → Wrote (writeRequest (asked f)) old (WriteAnswer.Accepted n) (back (3 + length name) (back 1 x y) z)
+        laid-out room table first second third =
+            let measured = on in
+            passed (good f (measured .short) (measured .utf8))
+            (writes n (length-request f ∙ sym (measured .long)) room
+            (filled-as (sym (bytes-are f))
+            (filled-more (3 + length name) (filled-more 1 (filled refl first) (filled (counted-good 2 name (measured .short)) second) refl) (rw table at third) (omega (arith, length-counted 2 name)))))

@@ -1,0 +1,5 @@
+pub mod Rests
+pub mod Requests
+pub mod Laid
+pub mod Unique
+pub mod DemandThree

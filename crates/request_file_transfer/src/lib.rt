@@ -1,0 +1,6 @@
+// File transfer requests, carried over from the original's src/services/request_file_transfer.rs.
+pub mod layout;
+pub mod name;
+pub mod read;
+pub mod rewrite;
+pub mod write;

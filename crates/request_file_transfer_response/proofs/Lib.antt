@@ -1,0 +1,4 @@
+pub mod Cases
+pub mod Laid
+pub mod Unique
+pub mod DemandThree
