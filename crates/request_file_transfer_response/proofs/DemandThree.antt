@@ -30,23 +30,23 @@ use Rattle.request_file_transfer_response.proofs.rewrite.rewrite_respon
 
 -- a call of `read_response`, lent the message s, that met its contract and answered x
 pub record ReadCall (s : List ℕ) (x : Seen RequestFileTransferResponse) : Type 0 where
-  pub κs : Lfts 1
-  pub a : ArgsD read-response.signature κs
-  pub exit : AtExit (endedOf 1 read-response-kinds.ps read-response-kinds.r) κs
+  pub lifetimes : Lfts 1
+  pub args : ArgsD read-response.signature lifetimes
+  pub exit : AtExit (endedOf 1 read-response-kinds.ps read-response-kinds.r) lifetimes
   pub result : ResponseAnswer
-  pub lent : now (a .0) ≡ s
+  pub lent : now (args .0) ≡ s
   pub seen : seenResponse result ≡ x
-  pub met : read-response-reads.Post κs a result exit
+  pub met : read-response-reads.Post lifetimes args result exit
 
 -- a call of `rewrite_response`, lent the message s and a buffer that held `room`, that met its contract, answered r and left the buffer holding `after`
 pub record RewriteCall (s room : List ℕ) (r : RewriteAnswer) (after : List ℕ) : Type 0 where
-  pub κs : Lfts 2
-  pub a : ArgsD rewrite-response.signature κs
-  pub exit : AtExit (endedOf 2 rewrite-response-kinds.ps rewrite-response-kinds.r) κs
-  pub lent : now (a .0) ≡ s
-  pub before : now (a .1 .0) ≡ room
+  pub lifetimes : Lfts 2
+  pub args : ArgsD rewrite-response.signature lifetimes
+  pub exit : AtExit (endedOf 2 rewrite-response-kinds.ps rewrite-response-kinds.r) lifetimes
+  pub lent : now (args .0) ≡ s
+  pub before : now (args .1 .0) ≡ room
   pub left : now (exit .1 .0) ≡ after
-  pub met : rewrite-response-reads.Post κs a r exit
+  pub met : rewrite-response-reads.Post lifetimes args r exit
 
 -- what a call of the reader answered is the paper's answer
 read-right : (s : List ℕ) (x : Seen RequestFileTransferResponse) → ReadCall s x → SeenRight s x

@@ -8,13 +8,12 @@ use Rattle.paper.specs.Response.{Response, response, AfterFormat, AfterMode, en
 use Rattle.wire.specs.Size.{value}
 use Rattle.wire.specs.Reading.{Seen, found, stopped, Right}
 use Rattle.wire.specs.Place.{bytesAt}
-use Rattle.wire.specs.declared.place.Place.{Place}
 use Rattle.file_operation.specs.Mode.{kindOf}
 use Rattle.file_operation.specs.declared.payload.FileSizePayload.{FileSizePayload}
 use Rattle.request_file_transfer_response.specs.declared.read.More.{More}
 use Rattle.request_file_transfer_response.specs.declared.read.MoreAnswer.{MoreAnswer}
-use Rattle.request_file_transfer_response.specs.declared.read.Rest.{Rest}
-use Rattle.request_file_transfer_response.specs.declared.read.RestAnswer.{RestAnswer}
+use Rattle.request_file_transfer_response.specs.declared.read.Body.{Body}
+use Rattle.request_file_transfer_response.specs.declared.read.BodyAnswer.{BodyAnswer}
 use Rattle.request_file_transfer_response.specs.declared.read.RequestFileTransferResponse.{RequestFileTransferResponse}
 use Rattle.request_file_transfer_response.specs.declared.read.ResponseAnswer.{ResponseAnswer}
 
@@ -35,12 +34,12 @@ MoreRight h s at r =
     (k : Kind) (b : List ℕ) (f : ℕ) → Right More Response (withMore k b f) (readAfterFormat k b f h) (λ (x : More) (next : ℕ). Halves (x .«file_size») × (next ≤ length s)) s at (seenMore r)
 
 -- ---- what stands after the mode, from `at` on, in a response of kind k of the message s
-abbrev pub seenRest : RestAnswer → Seen Rest
-seenRest (RestAnswer.Accepted x next) = found x next
-seenRest (RestAnswer.Refused e) = stopped e
+abbrev pub seenBody : BodyAnswer → Seen Body
+seenBody (BodyAnswer.Accepted x next) = found x next
+seenBody (BodyAnswer.Refused e) = stopped e
 
-abbrev pub withRest : List ℕ → Kind → Rest → Response
-withRest s k x = withMore k (bytesAt s (x .block)) (x .format .0) (x .more)
+abbrev pub withBody : List ℕ → Kind → Body → Response
+withBody s k x = withMore k (bytesAt s (x .block)) (x .format .0) (x .more)
 
 -- the block length begins right after its count; where the kind has none, its place is the empty one
 abbrev pub blockStart : AfterMode → ℕ → ℕ
@@ -48,14 +47,14 @@ blockStart ended at = 0
 blockStart (blockAndFormat more) at = at + 1
 
 -- the block length lies within the message, and the next field begins within it
-pub record RestPlaced (h : AfterMode) (s : List ℕ) (at : ℕ) (x : Rest) (next : ℕ) : Type 0 where
+pub record BodyPlaced (h : AfterMode) (s : List ℕ) (at : ℕ) (x : Body) (next : ℕ) : Type 0 where
   pub begins : x .block .start ≡ blockStart h at
   pub ends : x .block .start + x .block .len ≤ length s
   pub halves : Halves (x .more .«file_size»)
   pub within : next ≤ length s
 
-abbrev pub RestRight : AfterMode → List ℕ → ℕ → RestAnswer → Type 0
-RestRight h s at r = (k : Kind) → Right Rest Response (withRest s k) (readAfterMode k h) (RestPlaced h s at) s at (seenRest r)
+abbrev pub BodyRight : AfterMode → List ℕ → ℕ → BodyAnswer → Type 0
+BodyRight h s at r = (k : Kind) → Right Body Response (withBody s k) (readAfterMode k h) (BodyPlaced h s at) s at (seenBody r)
 
 -- ---- a response of the message s
 abbrev pub seenResponse : ResponseAnswer → Seen RequestFileTransferResponse

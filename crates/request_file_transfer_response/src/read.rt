@@ -29,7 +29,7 @@ ghost use Rattle.paper.specs.Response.{nothing, twoSizes, oneSize, place, ended
 ghost use Rattle.wire.specs.Reading.{refusalIn};
 ghost use Rattle.wire.specs.Size.{value};
 ghost use Rattle.request_file_transfer_response.specs.Layout.{moreOf, layoutOf};
-ghost use Rattle.request_file_transfer_response.specs.Reading.{seenMore, MoreRight, seenRest, RestRight, seenResponse, ResponseRight};
+ghost use Rattle.request_file_transfer_response.specs.Reading.{seenMore, MoreRight, seenBody, BodyRight, seenResponse, ResponseRight};
 
 // A response; its block length is a place of the message, whose bytes are handed on as sent. What the kind lacks is 0 or the empty place.
 // The one size of a ReadDir response stands as the uncompressed.
@@ -176,34 +176,34 @@ fn more_at(layout: AfterFormat, s: &[u8], at: usize) -> MoreAnswer
 }
 
 // What stands after the mode.
-struct Rest {
+struct Body {
     block: Place,
     format: DataFormatIdentifier,
     more: More,
 }
 
-enum RestAnswer {
-    Accepted(Rest, usize),
+enum BodyAnswer {
+    Accepted(Body, usize),
     Refused(Refusal),
 }
 
-impl RestAnswer {
+impl BodyAnswer {
     fn refusal(self) -> Refusal
-        ensures { λ r. ⌜ r ≡ refusalIn (seenRest self) ⌝ }
+        ensures { λ r. ⌜ r ≡ refusalIn (seenBody self) ⌝ }
     {
         match self {
-            RestAnswer::Refused(e) => e,
-            RestAnswer::Accepted(_, _) => Refusal::WrongFormat,
+            BodyAnswer::Refused(e) => e,
+            BodyAnswer::Accepted(_, _) => Refusal::WrongFormat,
         }
     }
 }
 
-fn ended_at(s: &[u8], at: usize) -> RestAnswer
+fn ended_at(s: &[u8], at: usize) -> BodyAnswer
     requires { ⌜ at ≤ length (now s) ⌝ }
-    ensures { λ r. ⌜ RestRight ended (now (s .entry)) at r ⌝ }
+    ensures { λ r. ⌜ BodyRight ended (now (s .entry)) at r ⌝ }
 {
-    RestAnswer::Accepted(
-        Rest {
+    BodyAnswer::Accepted(
+        Body {
             block: Place { start: 0, len: 0 },
             format: DataFormatIdentifier::from_byte(0),
             more: without_sizes(0),
@@ -212,27 +212,27 @@ fn ended_at(s: &[u8], at: usize) -> RestAnswer
     )
 }
 
-fn rest_at(layout: AfterMode, s: &[u8], at: usize) -> RestAnswer
+fn body_at(layout: AfterMode, s: &[u8], at: usize) -> BodyAnswer
     requires { ⌜ at ≤ length (now s) ⌝ }
-    ensures { λ r. ⌜ RestRight (layoutOf layout) (now (s .entry)) at r ⌝ }
+    ensures { λ r. ⌜ BodyRight (layoutOf layout) (now (s .entry)) at r ⌝ }
 {
     let AfterMode::BlockAndFormat(last) = layout else {
         return ended_at(s, at);
     };
     let b = counted_at(Prefix::One, s, at);
     let PlaceAnswer::Accepted(block, after_block) = b else {
-        return RestAnswer::Refused(b.refusal());
+        return BodyAnswer::Refused(b.refusal());
     };
     let f = byte_at(s, after_block);
     let ByteAnswer::Accepted(format, next) = f else {
-        return RestAnswer::Refused(f.refusal());
+        return BodyAnswer::Refused(f.refusal());
     };
     let m = more_at(last, s, next);
     let MoreAnswer::Accepted(more, end) = m else {
-        return RestAnswer::Refused(m.refusal());
+        return BodyAnswer::Refused(m.refusal());
     };
-    RestAnswer::Accepted(
-        Rest {
+    BodyAnswer::Accepted(
+        Body {
             block,
             format: DataFormatIdentifier::from_byte(format),
             more,
@@ -253,13 +253,13 @@ pub fn read_response(s: &[u8]) -> ResponseAnswer
     let ModeAnswer::Accepted(kind) = k else {
         return ResponseAnswer::Refused(k.refusal());
     };
-    let a = rest_at(after_mode(kind), s, next);
-    let RestAnswer::Accepted(rest, tail) = a else {
+    let a = body_at(after_mode(kind), s, next);
+    let BodyAnswer::Accepted(body, tail) = a else {
         return ResponseAnswer::Refused(a.refusal());
     };
-    let max_number_of_block_length = rest.block;
-    let data_format_identifier = rest.format;
-    let more = rest.more;
+    let max_number_of_block_length = body.block;
+    let data_format_identifier = body.format;
+    let more = body.more;
     let file_size = more.file_size;
     let position = more.position;
     ResponseAnswer::Accepted(

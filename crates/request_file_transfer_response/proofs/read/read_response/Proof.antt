@@ -11,7 +11,7 @@ use Rattle.wire.specs.declared.number.ByteAnswer.{ByteAnswer}
 use Rattle.wire.proofs.Left.{left, left-answer}
 use Rattle.file_operation.specs.Mode.{kindOf, modeSaid, modeRefusal}
 use Rattle.file_operation.specs.declared.mode.ModeAnswer.{ModeAnswer}
-use Rattle.request_file_transfer_response.specs.Reading.{seenRest, blockStart, RestRight}
+use Rattle.request_file_transfer_response.specs.Reading.{seenBody, blockStart, BodyRight}
 use Rattle.request_file_transfer_response.proofs.Cases.{no-mode, no-kind, by-kind}
 use borrow.Author.Needs.{needs}
 use Rattle.request_file_transfer_response.proofs.read.read_response.Statement.{statement}
@@ -33,12 +33,12 @@ kind-of k = kindOf (k .k .given .0 .0)
 kind : (k : tie.After-k) → accepted (kind-of k) ≡ known (m-of k .m .given .0 .0)
 kind k = sym (ap modeSaid (k .k .given .1)) ∙ k .before .before .from-byte .ensures
 
-abbrev k-of : tie.After-rest-at → tie.After-k
+abbrev k-of : tie.After-body-at → tie.After-k
 k-of a = a .before .before .before
 
 -- the rest, by the kind's layout
-rest : (a : tie.After-rest-at) → RestRight (afterMode (kind-of (k-of a))) (message (m-of (k-of a))) (m-of (k-of a) .m .given .0 .1 .0) (a .rest-at .result)
-rest a = rw (← a .before .after-mode .ensures) (a .rest-at .ensures)
+rest : (a : tie.After-body-at) → BodyRight (afterMode (kind-of (k-of a))) (message (m-of (k-of a))) (m-of (k-of a) .m .given .0 .1 .0) (a .body-at .result)
+rest a = rw (← a .before .after-mode .ensures) (a .body-at .ensures)
 
 returns : tie.Need-returns
 returns c = record { paper = no-mode _ (left (c .before .before .before .byte-at .ensures) (ap seenByte (c .before .enum-told .given .1)) (c .refusal .ensures)); place = tt }
@@ -51,15 +51,15 @@ returns-2 c = record {
   place = tt;
 }
 
-rest-at-requires : tie.Need-rest-at-requires
-rest-at-requires c κs = mode (c .before .before .before .before .before .before) .place .1
+body-at-requires : tie.Need-body-at-requires
+body-at-requires c κs = mode (c .before .before .before .before .before .before) .place .1
 
 returns-3 : tie.Need-returns-3
 returns-3 c =
     let a = c .before .before .before in
     let k = k-of a in
     record {
-      paper = by-kind _ (mode (m-of k) .paper) (kind k) (left (rest a (kind-of k)) (ap seenRest (c .before .enum-told3 .given .1)) (c .refusal3 .ensures));
+      paper = by-kind _ (mode (m-of k) .paper) (kind k) (left (rest a (kind-of k)) (ap seenBody (c .before .enum-told3 .given .1)) (c .refusal3 .ensures));
       place = tt;
     }
 
@@ -68,7 +68,7 @@ returns-4 c =
     let a = c .before .before .before .before .before .before in
     let k = k-of (a .before .before) in
     let m = m-of k in
-    let r = subst (RestRight (afterMode (kind-of k)) (message m) _) (a .a .given .1) (rest (a .before .before)) (kind-of k) in
+    let r = subst (BodyRight (afterMode (kind-of k)) (message m) _) (a .a .given .1) (rest (a .before .before)) (kind-of k) in
     let p = r .place in
     record {
       paper = by-kind _ (mode m .paper) (kind k) (r .paper);
@@ -90,7 +90,7 @@ read-response-spec =
     (λ c κs. search needs)
     returns-2
     (λ c κs. search needs)
-    rest-at-requires
+    body-at-requires
     (λ c. search needs)
     (λ c. search needs)
     (λ c κs. search needs)

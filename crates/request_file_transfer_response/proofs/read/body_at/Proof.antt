@@ -1,4 +1,4 @@
--- `request_file_transfer_response::read::rest_at` meets its contract: nothing, or block length, format byte and more, one after the other; a field's refusal is the answer's.
+-- `request_file_transfer_response::read::body_at` meets its contract: nothing, or block length, format byte and more, one after the other; a field's refusal is the answer's.
 -- Assumes nothing.
 use mathlib.Core.Path.{ap, subst}
 use mathlib.Core.List.{List, []}
@@ -14,8 +14,8 @@ use Rattle.wire.proofs.Left.{left}
 use Rattle.request_file_transfer_response.specs.Layout.{moreOf}
 use Rattle.request_file_transfer_response.specs.Reading.{seenMore, MoreRight}
 use borrow.Author.Needs.{needs}
-use Rattle.request_file_transfer_response.proofs.read.rest_at.Statement.{statement}
-use Rattle.request_file_transfer_response.proofs.read.rest_at.Tie as tie
+use Rattle.request_file_transfer_response.proofs.read.body_at.Statement.{statement}
+use Rattle.request_file_transfer_response.proofs.read.body_at.Tie as tie
 
 -- ---- what each let .. else found, each by the one before it
 abbrev layout-of : tie.After-b → tie.After-layout
@@ -83,8 +83,8 @@ returns-5 c =
       place = let p = more k [] 0 .place in record { begins = begins; ends = omega arith; halves = p .0; within = p .1 };
     })
 
-pub rest-at-spec : {M : Type 1} → statement M
-rest-at-spec =
+pub body-at-spec : {M : Type 1} → statement M
+body-at-spec =
     tie.close
     (tie.spec
     (λ c. search needs)
