@@ -11,3 +11,4 @@ pub mod Response
 pub mod RoutineControl
 pub mod TroubleCode
 pub mod Desk
+pub mod ReadingProgram

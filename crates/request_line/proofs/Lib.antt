@@ -1,0 +1,5 @@
+pub mod Writable
+pub mod Lines
+pub mod Decimal
+pub mod Laid
+pub mod Unique

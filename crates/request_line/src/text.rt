@@ -1,0 +1,120 @@
+// The text of the line: words and decimal numbers in ASCII, ended by a line feed.
+use crate::line::Line;
+use crate::line::Shown;
+use crate::line::line_of;
+use wire::refusal::Refusal;
+use wire::write::put_byte;
+use wire::write::put_bytes;
+ghost use mathlib.Core.Path.{_≡_};
+ghost use mathlib.Core.List.{_++_};
+ghost use Prim.Native.Nat.{_≤_};
+ghost use lib.ListN.{length};
+ghost use Rattle.io.specs.Counts.{Counts};
+ghost use Rattle.paper.specs.Answer.{over};
+ghost use Rattle.paper.specs.ReadingProgram.{decimal, shownText, textOf, good, bad, lineOf};
+ghost use Rattle.wire.specs.Refusals.{row};
+ghost use Rattle.request_line.specs.Line.{shownOf, lineSaid};
+ghost use Rattle.request_line.specs.Text.{Put, front};
+
+// The digits of a number, written from the start of `out`; how many they are.
+fn put_decimal(n: u64, out: &mut [u8]) -> usize
+    ensures { λ r. ⌜ Put (decimal n) r 20 (now (out .entry)) (now (out .exit)) ⌝ }
+{
+    let mut digits = [0u8; 20];
+    let k = io::decimal(n, &mut digits);
+    put_bytes(&digits[..k], out);
+    k
+}
+
+fn put_shown(format: Shown, out: &mut [u8]) -> usize
+    ensures { λ r. ⌜ Put (shownText (shownOf format)) r 20 (now (out .entry)) (now (out .exit)) ⌝ }
+{
+    match format {
+        Shown::Dash => {
+            put_byte(b'-', out);
+            1
+        }
+        Shown::Byte(b) => put_decimal(b as u64, out),
+    }
+}
+
+// A word and the number after it.
+fn put_field(word: &[u8], n: u64, out: &mut [u8]) -> usize
+    requires { ⌜ (length (now word) ≤ length (now out)) × (length (now word) ≤ 14) ⌝ }
+    ensures { λ r. ⌜ Put (now (word .entry) ++ decimal n) r 34 (now (out .entry)) (now (out .exit)) ⌝ }
+{
+    put_bytes(word, out);
+    word.len() + put_decimal(n, &mut out[word.len()..])
+}
+
+// `accepted kind K name N format F`.
+fn put_front(kind: u8, name: usize, format: Shown, out: &mut [u8]) -> usize
+    requires { ⌜ 160 ≤ length (now out) ⌝ }
+    ensures { λ r. ⌜ Put (front kind name (shownOf format)) r 88 (now (out .entry)) (now (out .exit)) ⌝ }
+{
+    let a = put_field(b"accepted kind ", kind as u64, out);
+    let b = a + put_field(b" name ", name as u64, &mut out[a..]);
+    put_bytes(b" format ", &mut out[b..]);
+    let c = b + 8;
+    c + put_shown(format, &mut out[c..])
+}
+
+// That, then ` normal M left L` and the line feed.
+fn put_accepted(
+    kind: u8,
+    name: usize,
+    format: Shown,
+    normal: usize,
+    left: usize,
+    out: &mut [u8],
+) -> usize
+    requires { ⌜ 160 ≤ length (now out) ⌝ }
+    ensures { λ r. ⌜ Put (textOf (good kind name (shownOf format) normal left)) r 160 (now (out .entry)) (now (out .exit)) ⌝ }
+{
+    let d = put_front(kind, name, format, out);
+    let e = d + put_field(b" normal ", normal as u64, &mut out[d..]);
+    let f = e + put_field(b" left ", left as u64, &mut out[e..]);
+    put_byte(b'\n', &mut out[f..]);
+    f + 1
+}
+
+// `refused N A B` and the line feed.
+fn put_refused(refusal: Refusal, out: &mut [u8]) -> usize
+    requires { ⌜ 160 ≤ length (now out) ⌝ }
+    ensures { λ r. ⌜ Put (textOf (bad (row refusal))) r 160 (now (out .entry)) (now (out .exit)) ⌝ }
+{
+    let a = put_field(b"refused ", refusal.number() as u64, out);
+    let b = a + put_field(b" ", refusal.first() as u64, &mut out[a..]);
+    let c = b + put_field(b" ", refusal.second() as u64, &mut out[b..]);
+    put_byte(b'\n', &mut out[c..]);
+    c + 1
+}
+
+fn put_text(line: Line, out: &mut [u8]) -> usize
+    requires { ⌜ 160 ≤ length (now out) ⌝ }
+    ensures { λ r. ⌜ Put (textOf (lineSaid line)) r 160 (now (out .entry)) (now (out .exit)) ⌝ }
+{
+    match line {
+        Line::TooLong => {
+            put_bytes(b"too long\n", out);
+            9
+        }
+        Line::Accepted {
+            kind,
+            name,
+            format,
+            normal,
+            left,
+        } => { put_accepted(kind, name, format, normal, left, out) }
+        Line::Refused(refusal) => put_refused(refusal, out),
+    }
+}
+
+// The text of the line about an input, from the start of `out`: all that the reading program prints. How many bytes it has.
+pub fn line_text(input: &[u8], out: &mut [u8; 4096]) -> usize
+    ensures { λ r. ⌜ r ≡ length (textOf (lineOf (now (input .entry)))) ⌝ }
+    ensures { λ r. ⌜ now (out .exit) ≡ over (textOf (lineOf (now (input .entry)))) (now (out .entry)) ⌝ }
+    ensures { λ r. ⌜ Counts r (now (out .exit)) ⌝ }
+{
+    put_text(line_of(input), out)
+}
