@@ -1,0 +1,5 @@
+pub mod Written
+pub mod Transfers
+pub mod Routines
+pub mod Codes
+pub mod Unique

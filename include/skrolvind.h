@@ -1,0 +1,113 @@
+/* Skrolvind for C: the functions of crate `station`, each proved to do what its contract says on every input.
+ *
+ * A slice is a pointer and then a length; an empty slice may have any pointer. No function keeps a pointer, and no
+ * function but a writer changes a byte of what it is lent. Two slices that are lent to one call must not overlap.
+ *
+ * Every record begins with three numbers: 0, 0, 0 where the call was accepted, else the number of the refusal and the two
+ * values that it carries (docs/REFUSALS.md). After a refusal every other field is 0. A kind or a sub-function that does not
+ * exist is refused before anything else is looked at.
+ */
+#ifndef SKROLVIND_H
+#define SKROLVIND_H
+
+#include <stdbool.h>
+#include <stddef.h>
+#include <stdint.h>
+
+#ifdef __cplusplus
+extern "C" {
+#endif
+
+/* A file transfer message that was read. `start` and `len` are the place of the name (in a request) or of the block length
+ * (in a response) in the message; sizes are held as two halves; what the kind lacks is 0; `tail` is where the message ends. */
+typedef struct {
+    uint64_t number, first, second;
+    uint64_t kind, start, len, format;
+    uint64_t uncompressed_high, uncompressed_low, compressed_high, compressed_low;
+    uint64_t position, tail;
+} skr_file_transfer;
+
+/* A routine message that was read. `start` and `len` are the place of its record. */
+typedef struct {
+    uint64_t number, first, second;
+    uint64_t suppress, sub_function, identifier, start, len;
+} skr_routine;
+
+/* What a writer did: how many bytes it wrote. */
+typedef struct {
+    uint64_t number, first, second;
+    uint64_t written;
+} skr_written;
+
+/* The desk's answer. */
+typedef struct {
+    uint64_t number, first, second;
+} skr_desk;
+
+/* A trouble code. */
+typedef struct {
+    uint64_t number, first, second;
+    uint64_t high, middle, low;
+} skr_trouble_code;
+
+/* The next trouble code of a list: `found` is 1, or 0 where the buffer is empty. */
+typedef struct {
+    uint64_t number, first, second;
+    uint64_t found, high, middle, low, tail;
+} skr_next_trouble_code;
+
+/* Reads a file transfer request from the start of the message. */
+skr_file_transfer skr_read_request(const uint8_t *message, size_t message_len);
+
+/* Reads a file transfer response from the start of the message. */
+skr_file_transfer skr_read_response(const uint8_t *message, size_t message_len);
+
+/* Reads a routine request; its record is all that follows the first three bytes. */
+skr_routine skr_read_routine_request(const uint8_t *message, size_t message_len);
+
+/* Reads a routine response. */
+skr_routine skr_read_routine_response(const uint8_t *message, size_t message_len);
+
+/* Writes a file transfer request at the start of the room, its sizes at the smallest width. What the kind lacks is ignored. */
+skr_written skr_write_request(uint8_t kind, const uint8_t *name, size_t name_len, uint8_t format,
+                              uint64_t uncompressed_high, uint64_t uncompressed_low,
+                              uint64_t compressed_high, uint64_t compressed_low,
+                              uint8_t *room, size_t room_len);
+
+/* Writes a file transfer response, likewise; of a ReadDir response the one size is the uncompressed. */
+skr_written skr_write_response(uint8_t kind, const uint8_t *block, size_t block_len, uint8_t format,
+                               uint64_t uncompressed_high, uint64_t uncompressed_low,
+                               uint64_t compressed_high, uint64_t compressed_low,
+                               uint64_t position, uint8_t *room, size_t room_len);
+
+/* Writes a routine request. */
+skr_written skr_write_routine_request(bool suppress, uint8_t sub_function, uint16_t identifier,
+                                      const uint8_t *record, size_t record_len, uint8_t *room, size_t room_len);
+
+/* Writes a routine response. */
+skr_written skr_write_routine_response(uint8_t sub_function, uint16_t identifier,
+                                       const uint8_t *record, size_t record_len, uint8_t *room, size_t room_len);
+
+/* Reads a file transfer request and writes it anew, without what is left over after it. */
+skr_written skr_rewrite_request(const uint8_t *message, size_t message_len, uint8_t *room, size_t room_len);
+
+/* Reads a file transfer response and writes it anew. */
+skr_written skr_rewrite_response(const uint8_t *message, size_t message_len, uint8_t *room, size_t room_len);
+
+/* Judges one request at the desk: the reader's refusals, then 9 for bytes left over, then 8. */
+skr_desk skr_desk_check(const uint8_t *message, size_t message_len);
+
+/* The length of the longest beginning of the name that is UTF-8. */
+uint64_t skr_valid_up_to(const uint8_t *name, size_t name_len);
+
+/* The trouble code of a number. */
+skr_trouble_code skr_dtc_from_number(uint32_t number);
+
+/* The first trouble code of a buffer, and where the next one begins. */
+skr_next_trouble_code skr_dtc_next(const uint8_t *buffer, size_t buffer_len);
+
+#ifdef __cplusplus
+}
+#endif
+
+#endif
