@@ -1,0 +1,175 @@
+//! Chosen values at every boundary, each with each.
+use crate::bench::Bench;
+use crate::write::{Routine, Transfer};
+
+const SIZES: [u128; 9] = [
+    0,
+    1,
+    255,
+    256,
+    u64::MAX as u128,
+    1 << 64,
+    (1 << 120) - 1,
+    1 << 120,
+    u128::MAX,
+];
+const POSITIONS: [u64; 6] = [0, 1, 255, 256, 1 << 63, u64::MAX];
+/// The six kinds, and four numbers that are none.
+const KINDS: [u8; 10] = [1, 2, 3, 4, 5, 6, 0, 7, 0x81, 255];
+/// The three sub-functions, and five numbers that are none.
+const SUB_FUNCTIONS: [u8; 8] = [1, 2, 3, 0, 4, 0x7F, 0x81, 0xFF];
+const SHORT_PARTS: [usize; 5] = [0, 1, 2, 255, 256];
+const LONG_PARTS: [usize; 3] = [65_534, 65_535, 65_536];
+
+/// Requests and responses to be written: every kind, name or block length, and pair of sizes.
+pub fn transfers(bench: &mut Bench) {
+    for name in SHORT_PARTS.into_iter().flat_map(names) {
+        for kind in KINDS {
+            for sizes in pairs() {
+                transfer(bench, kind, &name, sizes);
+            }
+        }
+    }
+    for name in LONG_PARTS.into_iter().flat_map(names) {
+        for kind in KINDS {
+            for size in SIZES {
+                transfer(bench, kind, &name, [size, size / 3]);
+            }
+        }
+    }
+}
+
+fn transfer(bench: &mut Bench, kind: u8, part: &[u8], sizes: [u128; 2]) {
+    let format = 0x11 ^ kind ^ sizes[1].to_le_bytes()[0];
+    let position = POSITIONS[(sizes[0] % 6) as usize];
+    let t = Transfer {
+        kind,
+        part,
+        format,
+        sizes,
+        position,
+    };
+    bench.written_request(t);
+    bench.written_response(t);
+}
+
+fn pairs() -> impl Iterator<Item = [u128; 2]> {
+    SIZES.into_iter().flat_map(|a| SIZES.map(|b| [a, b]))
+}
+
+/// A good name of this length, one of letters of two bytes, and damaged ones.
+fn names(len: usize) -> Vec<Vec<u8>> {
+    let good = vec![b'a'; len];
+    let mut names = vec![good.clone()];
+    if len >= 2 {
+        let mut wide = "é".repeat(len / 2).into_bytes();
+        wide.resize(len, b'z');
+        names.push(wide);
+    }
+    for (at, byte) in [(0, 0xFF), (len / 2, 0x80), (len.saturating_sub(1), 0xC3)] {
+        let mut bad = good.clone();
+        if let Some(b) = bad.get_mut(at) {
+            *b = byte;
+            names.push(bad);
+        }
+    }
+    names
+}
+
+/// Routine messages to be written, and the same as messages to be read.
+pub fn routines(bench: &mut Bench) {
+    for len in SHORT_PARTS.into_iter().chain(LONG_PARTS) {
+        let record: Vec<u8> = (0..len).map(|i| (i % 251) as u8).collect();
+        for sub_function in SUB_FUNCTIONS {
+            for identifier in [0, 1, 0x00FF, 0x0100, 0x0203, 0xFFFF] {
+                routine(bench, sub_function, identifier, &record);
+            }
+        }
+    }
+}
+
+fn routine(bench: &mut Bench, sub_function: u8, identifier: u16, record: &[u8]) {
+    for suppress in [false, true] {
+        let r = Routine {
+            suppress,
+            sub_function,
+            identifier,
+            record,
+        };
+        bench.written_routine_request(r);
+        bench.written_routine_response(r);
+    }
+    let [high, low] = identifier.to_be_bytes();
+    bench.message(&[&[sub_function, high, low], record].concat());
+}
+
+/// Requests and responses to be read: every kind and width, cut at every place, and lengthened.
+pub fn groups(bench: &mut Bench) {
+    for kind in 0..=8 {
+        for width in (0..=19).chain([32, 127, 128, 255]) {
+            for part in [0, 1, 2, 3] {
+                cuts(bench, &request(kind, part, width));
+                cuts(bench, &response(kind, part, width.into()));
+            }
+        }
+    }
+}
+
+/// Responses with widths of more than one byte, around the length that the group then needs, and long names around theirs.
+pub fn long_groups(bench: &mut Bench) {
+    for kind in [4, 5] {
+        for width in [256, 257, 4096, 65_535] {
+            let message = response(kind, 2, width);
+            around(bench, &message, message.len() - 1);
+            around(bench, &message, message.len() - 1 - usize::from(width));
+        }
+    }
+    for kind in 0..=8 {
+        for part in [255, 256, 65_534, 65_535] {
+            let message = request(kind, part, 2);
+            around(bench, &message, 3 + part);
+            around(bench, &message, message.len() - 1);
+        }
+        let message = response(kind, 255, 2);
+        around(bench, &message, 2 + 255);
+        around(bench, &message, message.len() - 1);
+    }
+}
+
+fn request(kind: u8, part: usize, width: u8) -> Vec<u8> {
+    let mut message = vec![kind];
+    message.extend((part as u16).to_be_bytes());
+    message.extend(vec![b'n'; part]);
+    message.extend([0x5A, width]);
+    message.extend((0..2 * usize::from(width)).map(|i| (7 * i + 1) as u8));
+    message
+}
+
+fn response(kind: u8, part: usize, width: u16) -> Vec<u8> {
+    let mut message = vec![kind, part as u8];
+    message.extend(vec![0; part]);
+    message.push(0x5A);
+    message.extend(width.to_be_bytes());
+    let sizes = if kind == 5 { 1 } else { 2 };
+    message.extend((0..sizes * usize::from(width)).map(|i| (7 * i + 1) as u8));
+    message
+}
+
+/// The message cut to every length, and lengthened by one, two and nine bytes.
+fn cuts(bench: &mut Bench, message: &[u8]) {
+    for len in 0..=message.len() {
+        bench.message(&message[..len]);
+    }
+    for more in [1, 2, 9] {
+        bench.message(&[message, &vec![0x33; more]].concat());
+    }
+}
+
+/// The message cut to the lengths around one place, and whole.
+fn around(bench: &mut Bench, message: &[u8], place: usize) {
+    for len in place.saturating_sub(3)..=(place + 3).min(message.len()) {
+        bench.message(&message[..len]);
+    }
+    bench.message(message);
+    bench.message(&[message, &[0x33]].concat());
+}

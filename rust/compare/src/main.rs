@@ -1,0 +1,92 @@
+//! Compares the static library with the original Rust files on the same inputs, and stops at the first difference.
+//!
+//! Each answer is looked at three times: the library's record, the binding's result, and a plain model of document 01, all beside
+//! the original's answer. Where document 01 lists an exception, its own rule takes the original's place, and that is counted apart.
+mod bench;
+mod expected;
+mod grid;
+mod model;
+mod random;
+mod read;
+mod report;
+mod rng;
+mod sweep;
+mod tally;
+mod write;
+
+use bench::Bench;
+use rng::Rng;
+use std::process::exit;
+use std::time::{Duration, Instant};
+
+const USAGE: &str = "usage: compare [--seconds N] [--seed N]";
+
+struct Arguments {
+    seconds: u64,
+    seed: u64,
+}
+
+fn main() {
+    let arguments = arguments();
+    println!("seed {}", arguments.seed);
+    let start = Instant::now();
+    let mut bench = Bench::new();
+    let b = &mut bench;
+    step(b, "chosen values written", grid::transfers);
+    step(b, "routine messages", grid::routines);
+    step(b, "groups and cuts", grid::groups);
+    step(b, "long groups and names", grid::long_groups);
+    step(b, "all messages of up to 3 bytes", sweep::short_messages);
+    step(b, "messages of 4 to 7 chosen bytes", sweep::chosen_messages);
+    step(b, "names of 4 and 5 chosen bytes", sweep::names);
+    step(b, "trouble-code numbers", sweep::numbers);
+    let end = start + Duration::from_secs(arguments.seconds);
+    step(b, "random", |b| random_rounds(b, arguments.seed, end));
+    println!();
+    bench.tally.print();
+    println!("\nNo difference, in {} s.", start.elapsed().as_secs());
+}
+
+/// At least one round, and more until the time is over.
+fn random_rounds(bench: &mut Bench, seed: u64, end: Instant) {
+    let mut rng = Rng::new(seed);
+    loop {
+        random::round(bench, &mut rng);
+        if Instant::now() >= end {
+            return;
+        }
+    }
+}
+
+/// Runs one part and says how much it compared and how long that took.
+fn step(bench: &mut Bench, what: &str, part: impl FnOnce(&mut Bench)) {
+    let (before, start) = (bench.tally.all(), Instant::now());
+    part(bench);
+    let count = tally::grouped(bench.tally.all() - before);
+    let seconds = start.elapsed().as_secs_f64();
+    println!("{what:<34}{count:>16} answers compared in {seconds:5.1} s");
+}
+
+fn arguments() -> Arguments {
+    let mut arguments = Arguments {
+        seconds: 60,
+        seed: 1,
+    };
+    let mut given = std::env::args().skip(1);
+    while let Some(name) = given.next() {
+        let Some(value) = given.next().and_then(|v| v.parse().ok()) else {
+            usage()
+        };
+        match name.as_str() {
+            "--seconds" => arguments.seconds = value,
+            "--seed" => arguments.seed = value,
+            _ => usage(),
+        }
+    }
+    arguments
+}
+
+fn usage() -> ! {
+    eprintln!("{USAGE}");
+    exit(2)
+}

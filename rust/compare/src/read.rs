@@ -1,0 +1,211 @@
+//! One message, and everything that can be asked of it.
+use crate::bench::Bench;
+use crate::report::agree;
+use crate::tally::{Call, Rule};
+use crate::{expected, model};
+use oracle::plain::{FileTransfer, Refusal};
+use skrolvind::flat;
+
+impl Bench {
+    /// Every call that takes a message.
+    pub fn message(&mut self, message: &[u8]) {
+        let request = self.request(message);
+        self.desk(message, &request);
+        self.rewritten_request(message);
+        self.response(message);
+        self.rewritten_response(message);
+        self.routine_request(message);
+        self.routine_response(message);
+    }
+
+    fn request(&mut self, message: &[u8]) -> Result<FileTransfer, Refusal> {
+        let paper = model::read_request(message);
+        let original = oracle::read_request(message);
+        agree(
+            "the original reads a request otherwise than document 01",
+            message,
+            &original,
+            &paper,
+        );
+        agree(
+            "a request is read otherwise",
+            message,
+            &flat::read_request(message),
+            &expected::transfer(message, &paper),
+        );
+        agree(
+            "the binding reads a request otherwise",
+            message,
+            &expected::bound_request(message),
+            &paper,
+        );
+        self.tally.count(Call::ReadRequest, by_width(&paper));
+        paper
+    }
+
+    fn response(&mut self, message: &[u8]) {
+        let paper = model::read_response(message);
+        let original = oracle::read_response(message);
+        agree(
+            "the original reads a response otherwise than document 01",
+            message,
+            &original,
+            &paper,
+        );
+        agree(
+            "a response is read otherwise",
+            message,
+            &flat::read_response(message),
+            &expected::transfer(message, &paper),
+        );
+        agree(
+            "the binding reads a response otherwise",
+            message,
+            &expected::bound_response(message),
+            &paper,
+        );
+        self.tally.count(Call::ReadResponse, by_width(&paper));
+    }
+
+    fn routine_request(&mut self, message: &[u8]) {
+        let paper = model::read_routine_request(message);
+        let original = oracle::read_routine_request(message);
+        agree(
+            "the original reads a routine request otherwise than document 01",
+            message,
+            &original,
+            &paper,
+        );
+        agree(
+            "a routine request is read otherwise",
+            message,
+            &flat::read_routine_request(message),
+            &expected::routine(&paper),
+        );
+        agree(
+            "the binding reads a routine request otherwise",
+            message,
+            &expected::bound_routine_request(message),
+            &paper,
+        );
+        let judged = matches!(paper, Err(r) if r.number == 4);
+        let rule = judged.then_some(Rule::SubFunctionByte);
+        self.tally.count(Call::ReadRoutineRequest, rule);
+    }
+
+    fn routine_response(&mut self, message: &[u8]) {
+        let paper = model::read_routine_response(message);
+        let original = oracle::read_routine_response(message);
+        agree(
+            "the original reads a routine response otherwise than document 01",
+            message,
+            &original,
+            &paper,
+        );
+        agree(
+            "a routine response is read otherwise",
+            message,
+            &flat::read_routine_response(message),
+            &expected::routine(&paper),
+        );
+        agree(
+            "the binding reads a routine response otherwise",
+            message,
+            &expected::bound_routine_response(message),
+            &paper,
+        );
+        self.tally.count(Call::ReadRoutineResponse, None);
+    }
+
+    fn desk(&mut self, message: &[u8], request: &Result<FileTransfer, Refusal>) {
+        let paper = model::desk_check(request);
+        agree(
+            "the desk judges a request otherwise",
+            message,
+            &flat::desk_check(message),
+            &expected::desk(paper),
+        );
+        agree(
+            "the binding's desk judges a request otherwise",
+            message,
+            &skrolvind::desk_check(message).map_err(expected::refusal),
+            &paper,
+        );
+        self.tally.count(Call::DeskCheck, Some(Rule::Desk));
+    }
+
+    /// A name, against Rust's own check.
+    pub fn name(&mut self, name: &[u8]) {
+        let good = match std::str::from_utf8(name) {
+            Ok(_) => name.len(),
+            Err(e) => e.valid_up_to(),
+        };
+        agree(
+            "a name is UTF-8 up to another place",
+            name,
+            &flat::valid_up_to(name),
+            &(good as u64),
+        );
+        agree(
+            "the binding finds a name UTF-8 up to another place",
+            name,
+            &skrolvind::valid_up_to(name),
+            &good,
+        );
+        self.tally.count(Call::ValidUpTo, None);
+    }
+
+    /// The trouble code of a number.
+    pub fn number(&mut self, number: u32) {
+        let original = oracle::trouble_code(number);
+        let bytes = number.to_be_bytes();
+        agree(
+            "the original makes another trouble code of a number than document 01",
+            &bytes,
+            &original,
+            &model::trouble_code(number),
+        );
+        agree(
+            "another trouble code is made of a number",
+            &bytes,
+            &flat::dtc_from_number(number),
+            &expected::code(original),
+        );
+        agree(
+            "the binding makes another trouble code of a number",
+            &bytes,
+            &expected::bound_code(number),
+            &original,
+        );
+        self.tally.count(Call::TroubleCode, None);
+    }
+
+    /// The next trouble code of a buffer.
+    pub fn next_code(&mut self, buffer: &[u8]) {
+        let original = oracle::next_trouble_code(buffer);
+        agree(
+            "the original finds another next trouble code than document 01",
+            buffer,
+            &original,
+            &model::next_trouble_code(buffer),
+        );
+        agree(
+            "another next trouble code is found",
+            buffer,
+            &flat::dtc_next(buffer),
+            &expected::next(buffer, original),
+        );
+        agree(
+            "the binding finds another next trouble code",
+            buffer,
+            &expected::bound_next(buffer),
+            &original,
+        );
+        self.tally.count(Call::NextTroubleCode, None);
+    }
+}
+
+/// Refusal 6 is document 01's own.
+fn by_width(answer: &Result<FileTransfer, Refusal>) -> Option<Rule> {
+    matches!(answer, Err(r) if r.number == 6).then_some(Rule::Width)
+}

@@ -1,0 +1,86 @@
+/* One fault at a time in front of the library, to see that the comparison finds it: FAULT is its number, 1 to 21.
+ * Each function calls the library's own, which `try` has given the prefix real_, and spoils the answer. */
+#include "../../include/skrolvind.h"
+
+#define DOOR(type, name, parameters, ...) \
+    type real_##name parameters;          \
+    type name parameters { __VA_ARGS__ }
+
+DOOR(skr_file_transfer, skr_read_request, (const uint8_t *m, size_t n),
+     skr_file_transfer r = real_skr_read_request(m, n);
+     if (FAULT == 1 && r.number) r.tail = n;                            /* a field is set after a refusal */
+     if (FAULT == 2) r.compressed_low &= 0xFFFFFFFFu;                   /* a size is cut to 32 bits */
+     if (FAULT == 3 && r.kind == 6 && r.len == 3) r.tail -= 1;          /* the tail is off by one, for one kind and one name's length */
+     if (FAULT == 4 && r.number == 1 && r.first == 35) r.first += 1;    /* needed is off by one, at width 17 */
+     return r;)
+
+DOOR(skr_file_transfer, skr_read_response, (const uint8_t *m, size_t n),
+     skr_file_transfer r = real_skr_read_response(m, n);
+     if (FAULT == 5 && r.number == 6) r.first &= 0xFF;                  /* a one-byte width */
+     if (FAULT == 6 && r.len > 1 && m[r.start] == 0) { r.start++; r.len--; } /* a zero is trimmed off the block length */
+     return r;)
+
+DOOR(skr_routine, skr_read_routine_request, (const uint8_t *m, size_t n),
+     skr_routine r = real_skr_read_routine_request(m, n);
+     if (FAULT == 7 && r.number == 4) r.first = m[0];                   /* refusal 4 carries the whole byte */
+     return r;)
+
+DOOR(skr_routine, skr_read_routine_response, (const uint8_t *m, size_t n),
+     skr_routine r = real_skr_read_routine_response(m, n);
+     if (FAULT == 8 && r.number == 0 && n > 65538) r.len = 65535;       /* a long record is cut */
+     return r;)
+
+DOOR(skr_written, skr_write_request,
+     (uint8_t k, const uint8_t *a, size_t an, uint8_t f, uint64_t uh, uint64_t ul, uint64_t ch, uint64_t cl, uint8_t *r, size_t rn),
+     skr_written w = real_skr_write_request(k, a, an, f, uh, ul, ch, cl, r, rn);
+     if (FAULT == 9 && w.number == 7 && rn > 0) r[0] = k;               /* a refused write changes a byte */
+     if (FAULT == 10 && w.number == 0 && w.written < rn) r[w.written] = 0; /* one byte more is written */
+     if (FAULT == 11 && w.number == 0 && w.written == rn && k == 5) r[rn] = 0; /* a byte is written past the room */
+     return w;)
+
+DOOR(skr_written, skr_write_response,
+     (uint8_t k, const uint8_t *a, size_t an, uint8_t f, uint64_t uh, uint64_t ul, uint64_t ch, uint64_t cl, uint64_t p, uint8_t *r, size_t rn),
+     if (FAULT == 12 && k == 5) { ch = 0; cl = 0; uh = 0; }             /* the high half of ReadDir's size is lost */
+     if (FAULT == 13 && k == 2 && an > 255) { skr_written x = {2, 0, 0, 0}; return x; } /* DeleteFile refuses a long block length */
+     return real_skr_write_response(k, a, an, f, uh, ul, ch, cl, p, r, rn);)
+
+DOOR(skr_written, skr_write_routine_request,
+     (bool s, uint8_t f, uint16_t i, const uint8_t *d, size_t dn, uint8_t *r, size_t rn),
+     if (FAULT == 14 && dn == 65535) { skr_written x = {2, 0, 0, 0}; return x; } /* the longest record is refused */
+     return real_skr_write_routine_request(s, f, i, d, dn, r, rn);)
+
+DOOR(skr_written, skr_write_routine_response,
+     (uint8_t f, uint16_t i, const uint8_t *d, size_t dn, uint8_t *r, size_t rn),
+     if (FAULT == 15 && f == 0xFF) f = 3;                               /* a sub-function that does not exist is let in */
+     return real_skr_write_routine_response(f, i, d, dn, r, rn);)
+
+DOOR(skr_written, skr_rewrite_request, (const uint8_t *m, size_t n, uint8_t *r, size_t rn),
+     skr_written w = real_skr_rewrite_request(m, n, r, rn);
+     if (FAULT == 16 && w.number == 7) w.first = n;                     /* needed is the length of the message that was read */
+     return w;)
+
+DOOR(skr_written, skr_rewrite_response, (const uint8_t *m, size_t n, uint8_t *r, size_t rn),
+     skr_written w = real_skr_rewrite_response(m, n, r, rn);
+     if (FAULT == 17 && w.number == 0 && m[0] == 6) r[w.written - 1] ^= (n == 20); /* a bit of a position is turned, at one length */
+     return w;)
+
+DOOR(skr_desk, skr_desk_check, (const uint8_t *m, size_t n),
+     skr_desk d = real_skr_desk_check(m, n);
+     skr_file_transfer r = real_skr_read_request(m, n);
+     if (FAULT == 18 && d.number == 9 && r.compressed_low > r.uncompressed_low) { d.number = 8; d.first = 0; } /* 8 before 9 */
+     return d;)
+
+DOOR(uint64_t, skr_valid_up_to, (const uint8_t *m, size_t n),
+     uint64_t v = real_skr_valid_up_to(m, n);
+     if (FAULT == 19 && n == 4 && m[0] == 0xF4 && m[1] == 0x8F && m[2] == 0xBF && m[3] == 0xBF) v = 0; /* the last character is refused */
+     return v;)
+
+DOOR(skr_trouble_code, skr_dtc_from_number, (uint32_t n),
+     skr_trouble_code c = real_skr_dtc_from_number(n);
+     if (FAULT == 20 && n == 0x01FFFFFFu) { c.number = 0; c.first = 0; c.high = c.middle = c.low = 255; } /* a number is cut to 24 bits */
+     return c;)
+
+DOOR(skr_next_trouble_code, skr_dtc_next, (const uint8_t *m, size_t n),
+     skr_next_trouble_code c = real_skr_dtc_next(m, n);
+     if (FAULT == 21 && n == 8) c.tail = 4;                             /* the next code begins one byte late */
+     return c;)

@@ -1,0 +1,296 @@
+//! The C functions as `include/skrolvind.h` has them, over slices: flat records, numbers for kinds and sub-functions, sizes in two
+//! halves. All the unsafe code of this crate is here. The functions of the crate's root are the ones to use; these are for those
+//! who want the very records.
+#![allow(missing_docs)]
+
+/// A file transfer message that was read.
+#[repr(C)]
+#[derive(Clone, Copy, Debug, Default, PartialEq, Eq)]
+pub struct FileTransfer {
+    pub number: u64,
+    pub first: u64,
+    pub second: u64,
+    pub kind: u64,
+    pub start: u64,
+    pub len: u64,
+    pub format: u64,
+    pub uncompressed_high: u64,
+    pub uncompressed_low: u64,
+    pub compressed_high: u64,
+    pub compressed_low: u64,
+    pub position: u64,
+    pub tail: u64,
+}
+
+/// A routine message that was read.
+#[repr(C)]
+#[derive(Clone, Copy, Debug, Default, PartialEq, Eq)]
+pub struct Routine {
+    pub number: u64,
+    pub first: u64,
+    pub second: u64,
+    pub suppress: u64,
+    pub sub_function: u64,
+    pub identifier: u64,
+    pub start: u64,
+    pub len: u64,
+}
+
+/// What a writer did.
+#[repr(C)]
+#[derive(Clone, Copy, Debug, Default, PartialEq, Eq)]
+pub struct Written {
+    pub number: u64,
+    pub first: u64,
+    pub second: u64,
+    pub written: u64,
+}
+
+/// The desk's answer.
+#[repr(C)]
+#[derive(Clone, Copy, Debug, Default, PartialEq, Eq)]
+pub struct Desk {
+    pub number: u64,
+    pub first: u64,
+    pub second: u64,
+}
+
+/// A trouble code.
+#[repr(C)]
+#[derive(Clone, Copy, Debug, Default, PartialEq, Eq)]
+pub struct TroubleCode {
+    pub number: u64,
+    pub first: u64,
+    pub second: u64,
+    pub high: u64,
+    pub middle: u64,
+    pub low: u64,
+}
+
+/// The next trouble code of a list.
+#[repr(C)]
+#[derive(Clone, Copy, Debug, Default, PartialEq, Eq)]
+pub struct NextTroubleCode {
+    pub number: u64,
+    pub first: u64,
+    pub second: u64,
+    pub found: u64,
+    pub high: u64,
+    pub middle: u64,
+    pub low: u64,
+    pub tail: u64,
+}
+
+/// The two sizes of a message to be written, in halves.
+#[derive(Clone, Copy, Debug, Default, PartialEq, Eq)]
+pub struct Sizes {
+    pub uncompressed_high: u64,
+    pub uncompressed_low: u64,
+    pub compressed_high: u64,
+    pub compressed_low: u64,
+}
+
+impl Sizes {
+    /// Takes two sizes apart.
+    #[must_use]
+    pub const fn new(uncompressed: u128, compressed: u128) -> Self {
+        Self {
+            uncompressed_high: (uncompressed >> 64) as u64,
+            uncompressed_low: uncompressed as u64,
+            compressed_high: (compressed >> 64) as u64,
+            compressed_low: compressed as u64,
+        }
+    }
+}
+
+mod c {
+    use super::{Desk, FileTransfer, NextTroubleCode, Routine, TroubleCode, Written};
+
+    unsafe extern "C" {
+        pub fn skr_read_request(message: *const u8, message_len: usize) -> FileTransfer;
+        pub fn skr_read_response(message: *const u8, message_len: usize) -> FileTransfer;
+        pub fn skr_read_routine_request(message: *const u8, message_len: usize) -> Routine;
+        pub fn skr_read_routine_response(message: *const u8, message_len: usize) -> Routine;
+        pub fn skr_write_request(
+            kind: u8,
+            name: *const u8,
+            name_len: usize,
+            format: u8,
+            uncompressed_high: u64,
+            uncompressed_low: u64,
+            compressed_high: u64,
+            compressed_low: u64,
+            room: *mut u8,
+            room_len: usize,
+        ) -> Written;
+        pub fn skr_write_response(
+            kind: u8,
+            block: *const u8,
+            block_len: usize,
+            format: u8,
+            uncompressed_high: u64,
+            uncompressed_low: u64,
+            compressed_high: u64,
+            compressed_low: u64,
+            position: u64,
+            room: *mut u8,
+            room_len: usize,
+        ) -> Written;
+        pub fn skr_write_routine_request(
+            suppress: bool,
+            sub_function: u8,
+            identifier: u16,
+            record: *const u8,
+            record_len: usize,
+            room: *mut u8,
+            room_len: usize,
+        ) -> Written;
+        pub fn skr_write_routine_response(
+            sub_function: u8,
+            identifier: u16,
+            record: *const u8,
+            record_len: usize,
+            room: *mut u8,
+            room_len: usize,
+        ) -> Written;
+        pub fn skr_rewrite_request(
+            message: *const u8,
+            message_len: usize,
+            room: *mut u8,
+            room_len: usize,
+        ) -> Written;
+        pub fn skr_rewrite_response(
+            message: *const u8,
+            message_len: usize,
+            room: *mut u8,
+            room_len: usize,
+        ) -> Written;
+        pub fn skr_desk_check(message: *const u8, message_len: usize) -> Desk;
+        pub fn skr_valid_up_to(name: *const u8, name_len: usize) -> u64;
+        pub safe fn skr_dtc_from_number(number: u32) -> TroubleCode;
+        pub fn skr_dtc_next(buffer: *const u8, buffer_len: usize) -> NextTroubleCode;
+    }
+}
+
+// Every block below is sound for one reason: a Rust slice is a pointer and a length that belong together, the functions read and
+// write nothing else and keep no pointer, and a shared slice cannot overlap one that is lent for writing.
+
+/// `skr_read_request`.
+#[must_use]
+pub fn read_request(message: &[u8]) -> FileTransfer {
+    // SAFETY: the pointer and the length are those of one slice.
+    unsafe { c::skr_read_request(message.as_ptr(), message.len()) }
+}
+
+/// `skr_read_response`.
+#[must_use]
+pub fn read_response(message: &[u8]) -> FileTransfer {
+    // SAFETY: the pointer and the length are those of one slice.
+    unsafe { c::skr_read_response(message.as_ptr(), message.len()) }
+}
+
+/// `skr_read_routine_request`.
+#[must_use]
+pub fn read_routine_request(message: &[u8]) -> Routine {
+    // SAFETY: the pointer and the length are those of one slice.
+    unsafe { c::skr_read_routine_request(message.as_ptr(), message.len()) }
+}
+
+/// `skr_read_routine_response`.
+#[must_use]
+pub fn read_routine_response(message: &[u8]) -> Routine {
+    // SAFETY: the pointer and the length are those of one slice.
+    unsafe { c::skr_read_routine_response(message.as_ptr(), message.len()) }
+}
+
+/// `skr_write_request`.
+pub fn write_request(kind: u8, name: &[u8], format: u8, s: Sizes, room: &mut [u8]) -> Written {
+    let (n, n_len) = (name.as_ptr(), name.len());
+    let (r, r_len) = (room.as_mut_ptr(), room.len());
+    let (uh, ul) = (s.uncompressed_high, s.uncompressed_low);
+    let (ch, cl) = (s.compressed_high, s.compressed_low);
+    // SAFETY: each pointer stands with its own slice's length, and the two slices do not overlap.
+    unsafe { c::skr_write_request(kind, n, n_len, format, uh, ul, ch, cl, r, r_len) }
+}
+
+/// `skr_write_response`.
+pub fn write_response(
+    kind: u8,
+    block: &[u8],
+    format: u8,
+    s: Sizes,
+    position: u64,
+    room: &mut [u8],
+) -> Written {
+    let (b, b_len) = (block.as_ptr(), block.len());
+    let (r, r_len) = (room.as_mut_ptr(), room.len());
+    let (uh, ul) = (s.uncompressed_high, s.uncompressed_low);
+    let (ch, cl) = (s.compressed_high, s.compressed_low);
+    // SAFETY: each pointer stands with its own slice's length, and the two slices do not overlap.
+    unsafe { c::skr_write_response(kind, b, b_len, format, uh, ul, ch, cl, position, r, r_len) }
+}
+
+/// `skr_write_routine_request`.
+pub fn write_routine_request(
+    suppress: bool,
+    sub: u8,
+    identifier: u16,
+    record: &[u8],
+    room: &mut [u8],
+) -> Written {
+    let (d, d_len) = (record.as_ptr(), record.len());
+    let (r, r_len) = (room.as_mut_ptr(), room.len());
+    // SAFETY: each pointer stands with its own slice's length, and the two slices do not overlap.
+    unsafe { c::skr_write_routine_request(suppress, sub, identifier, d, d_len, r, r_len) }
+}
+
+/// `skr_write_routine_response`.
+pub fn write_routine_response(sub: u8, identifier: u16, record: &[u8], room: &mut [u8]) -> Written {
+    let (d, d_len) = (record.as_ptr(), record.len());
+    let (r, r_len) = (room.as_mut_ptr(), room.len());
+    // SAFETY: each pointer stands with its own slice's length, and the two slices do not overlap.
+    unsafe { c::skr_write_routine_response(sub, identifier, d, d_len, r, r_len) }
+}
+
+/// `skr_rewrite_request`.
+pub fn rewrite_request(message: &[u8], room: &mut [u8]) -> Written {
+    let (m, m_len) = (message.as_ptr(), message.len());
+    let (r, r_len) = (room.as_mut_ptr(), room.len());
+    // SAFETY: each pointer stands with its own slice's length, and the two slices do not overlap.
+    unsafe { c::skr_rewrite_request(m, m_len, r, r_len) }
+}
+
+/// `skr_rewrite_response`.
+pub fn rewrite_response(message: &[u8], room: &mut [u8]) -> Written {
+    let (m, m_len) = (message.as_ptr(), message.len());
+    let (r, r_len) = (room.as_mut_ptr(), room.len());
+    // SAFETY: each pointer stands with its own slice's length, and the two slices do not overlap.
+    unsafe { c::skr_rewrite_response(m, m_len, r, r_len) }
+}
+
+/// `skr_desk_check`.
+#[must_use]
+pub fn desk_check(message: &[u8]) -> Desk {
+    // SAFETY: the pointer and the length are those of one slice.
+    unsafe { c::skr_desk_check(message.as_ptr(), message.len()) }
+}
+
+/// `skr_valid_up_to`.
+#[must_use]
+pub fn valid_up_to(name: &[u8]) -> u64 {
+    // SAFETY: the pointer and the length are those of one slice.
+    unsafe { c::skr_valid_up_to(name.as_ptr(), name.len()) }
+}
+
+/// `skr_dtc_from_number`.
+#[must_use]
+pub fn dtc_from_number(number: u32) -> TroubleCode {
+    c::skr_dtc_from_number(number)
+}
+
+/// `skr_dtc_next`.
+#[must_use]
+pub fn dtc_next(buffer: &[u8]) -> NextTroubleCode {
+    // SAFETY: the pointer and the length are those of one slice.
+    unsafe { c::skr_dtc_next(buffer.as_ptr(), buffer.len()) }
+}

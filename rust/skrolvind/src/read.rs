@@ -1,0 +1,152 @@
+//! The calls that read and judge.
+use crate::flat;
+use crate::{
+    Kind, Refusal, Request, Response, RoutineRequest, RoutineResponse, SubFunction, TroubleCode,
+};
+
+/// What the first three numbers of every record say.
+pub(crate) const fn accepted(number: u64, first: u64, second: u64) -> Result<(), Refusal> {
+    if number == 0 {
+        return Ok(());
+    }
+    Err(Refusal {
+        number,
+        first,
+        second,
+    })
+}
+
+/// A number of the library as a byte, a length or whatever else is wanted; it is proved to be small enough.
+fn as_small<T: TryFrom<u64>>(number: u64) -> T {
+    match T::try_from(number) {
+        Ok(small) => small,
+        Err(_) => unreachable!("the library answered {number} where that cannot be"),
+    }
+}
+
+fn part(message: &[u8], start: u64, len: u64) -> &[u8] {
+    &message[as_small(start)..][..as_small(len)]
+}
+
+fn kind(number: u64) -> Kind {
+    Kind::from_number(number).expect("the library answers one of the six kinds")
+}
+
+fn sub_function(number: u64) -> SubFunction {
+    SubFunction::from_number(number).expect("the library answers one of the three sub-functions")
+}
+
+fn whole(high: u64, low: u64) -> u128 {
+    u128::from(high) << 64 | u128::from(low)
+}
+
+/// Reads a file transfer request from the start of the message; hands out the request and the tail.
+///
+/// # Errors
+/// Refusals 1, 2, 3 and 6.
+pub fn read_request(message: &[u8]) -> Result<(Request<'_>, &[u8]), Refusal> {
+    let r = flat::read_request(message);
+    accepted(r.number, r.first, r.second)?;
+    let request = Request {
+        kind: kind(r.kind),
+        name: part(message, r.start, r.len),
+        format: as_small(r.format),
+        uncompressed: whole(r.uncompressed_high, r.uncompressed_low),
+        compressed: whole(r.compressed_high, r.compressed_low),
+    };
+    Ok((request, &message[as_small(r.tail)..]))
+}
+
+/// Reads a file transfer response from the start of the message; hands out the response and the tail.
+///
+/// # Errors
+/// Refusals 1, 3 and 6.
+pub fn read_response(message: &[u8]) -> Result<(Response<'_>, &[u8]), Refusal> {
+    let r = flat::read_response(message);
+    accepted(r.number, r.first, r.second)?;
+    let response = Response {
+        kind: kind(r.kind),
+        block: part(message, r.start, r.len),
+        format: as_small(r.format),
+        uncompressed: whole(r.uncompressed_high, r.uncompressed_low),
+        compressed: whole(r.compressed_high, r.compressed_low),
+        position: r.position,
+    };
+    Ok((response, &message[as_small(r.tail)..]))
+}
+
+/// Reads a routine request, which is the whole message.
+///
+/// # Errors
+/// Refusals 1 and 4; the latter carries the low seven bits.
+pub fn read_routine_request(message: &[u8]) -> Result<RoutineRequest<'_>, Refusal> {
+    let r = flat::read_routine_request(message);
+    accepted(r.number, r.first, r.second)?;
+    Ok(RoutineRequest {
+        suppress: r.suppress != 0,
+        sub_function: sub_function(r.sub_function),
+        identifier: as_small(r.identifier),
+        record: part(message, r.start, r.len),
+    })
+}
+
+/// Reads a routine response, which is the whole message.
+///
+/// # Errors
+/// Refusals 1 and 4.
+pub fn read_routine_response(message: &[u8]) -> Result<RoutineResponse<'_>, Refusal> {
+    let r = flat::read_routine_response(message);
+    accepted(r.number, r.first, r.second)?;
+    Ok(RoutineResponse {
+        sub_function: sub_function(r.sub_function),
+        identifier: as_small(r.identifier),
+        record: part(message, r.start, r.len),
+    })
+}
+
+/// Judges one request at the desk.
+///
+/// # Errors
+/// The refusals of [`read_request`], then 9 for bytes left over, then 8 for a compressed size above the uncompressed.
+pub fn desk_check(message: &[u8]) -> Result<(), Refusal> {
+    let r = flat::desk_check(message);
+    accepted(r.number, r.first, r.second)
+}
+
+/// The length of the longest beginning of the name that is UTF-8.
+#[must_use]
+pub fn valid_up_to(name: &[u8]) -> usize {
+    as_small(flat::valid_up_to(name))
+}
+
+/// The trouble code of a number.
+///
+/// # Errors
+/// Refusal 5.
+pub fn trouble_code(number: u32) -> Result<TroubleCode, Refusal> {
+    let r = flat::dtc_from_number(number);
+    accepted(r.number, r.first, r.second)?;
+    Ok(TroubleCode {
+        high: as_small(r.high),
+        middle: as_small(r.middle),
+        low: as_small(r.low),
+    })
+}
+
+/// The first trouble code of a buffer and what follows it, or nothing where the buffer is empty.
+///
+/// # Errors
+/// Refusal 1.
+pub fn next_trouble_code(buffer: &[u8]) -> Result<Option<(TroubleCode, &[u8])>, Refusal> {
+    let r = flat::dtc_next(buffer);
+    accepted(r.number, r.first, r.second)?;
+    if r.found == 0 {
+        return Ok(None);
+    }
+    let code = TroubleCode {
+        high: as_small(r.high),
+        middle: as_small(r.middle),
+        low: as_small(r.low),
+    };
+    Ok(Some((code, &buffer[as_small(r.tail)..])))
+}

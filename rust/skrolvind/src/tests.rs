@@ -1,0 +1,213 @@
+//! Every row of document 01's bench table, and what the rows do not try.
+extern crate std;
+
+use crate::*;
+use std::vec;
+use std::vec::Vec;
+
+const fn refusal(number: u64, first: u64, second: u64) -> Refusal {
+    Refusal {
+        number,
+        first,
+        second,
+    }
+}
+
+fn request(kind: Kind, name: &[u8]) -> Request<'_> {
+    Request {
+        kind,
+        name,
+        format: 0,
+        uncompressed: 0,
+        compressed: 0,
+    }
+}
+
+#[track_caller]
+fn refused_request(message: &[u8], number: u64, first: u64, second: u64) {
+    assert_eq!(read_request(message), Err(refusal(number, first, second)));
+}
+
+#[test]
+fn a_request_to_delete() {
+    let message = [2, 0, 1, 0x61];
+    let (read, tail) = read_request(&message).unwrap();
+    assert_eq!(read, request(Kind::DeleteFile, b"a"));
+    assert!(tail.is_empty());
+    assert_eq!(read.name.as_ptr(), message[3..].as_ptr());
+}
+
+#[test]
+fn a_request_to_add_nothing() {
+    let (read, _) = read_request(&[1, 0, 1, 0x61, 0, 1, 0, 0]).unwrap();
+    assert_eq!(read, request(Kind::AddFile, b"a"));
+}
+
+#[test]
+fn sizes_at_two_widths_mean_the_same() {
+    let narrow = [1, 0, 1, 0x61, 0x11, 2, 0, 255, 1, 0];
+    let wide = [1, 0, 1, 0x61, 0x11, 3, 0, 0, 255, 0, 1, 0];
+    let (read, _) = read_request(&narrow).unwrap();
+    assert_eq!(read.format, 0x11);
+    assert_eq!((read.uncompressed, read.compressed), (255, 256));
+    assert_eq!(read_request(&wide).unwrap().0, read);
+    let mut room = [0xEE; 12];
+    assert_eq!(rewrite_request(&wide, &mut room), Ok(10));
+    assert_eq!(room[..10], narrow);
+    assert_eq!(room[10..], [0xEE; 2]);
+}
+
+#[test]
+fn refused_requests() {
+    refused_request(&[], 1, 1, 0);
+    refused_request(&[1, 0, 1, 0x61, 0, 0], 6, 0, 0);
+    refused_request(&[1], 1, 2, 0);
+    refused_request(&[7, 0, 2, 0x61], 1, 4, 3);
+    refused_request(&[7, 0, 1, 0xFF], 2, 0, 0);
+    refused_request(&[7, 0, 1, 0x61], 3, 7, 0);
+}
+
+#[test]
+fn a_request_with_a_width_of_17() {
+    let mut message = vec![1, 0, 1, 0x61, 0, 17];
+    message.resize(6 + 33, 0);
+    refused_request(&message, 1, 35, 34);
+    message.push(0);
+    refused_request(&message, 6, 17, 0);
+}
+
+#[test]
+fn a_response_about_a_directory() {
+    let wanted = Response {
+        kind: Kind::ReadDir,
+        block: &[],
+        format: 0,
+        uncompressed: 0,
+        compressed: 0,
+        position: 0,
+    };
+    assert_eq!(read_response(&[5, 0, 0, 0, 1, 0]), Ok((wanted, &[][..])));
+}
+
+#[test]
+fn a_response_with_a_position() {
+    let read = Response {
+        kind: Kind::ResumeFile,
+        block: &[0, 0x10],
+        format: 0x22,
+        uncompressed: 0,
+        compressed: 0,
+        position: 0x0102_0304_0506_0708,
+    };
+    let message = [6, 2, 0, 0x10, 0x22, 1, 2, 3, 4, 5, 6, 7, 8];
+    assert_eq!(read_response(&message), Ok((read, &[][..])));
+    let mut room = [0; 13];
+    assert_eq!(write_response(&read, &mut room), Ok(13));
+    assert_eq!(room, message);
+    let short = rewrite_response(&message, &mut room[..12]);
+    assert_eq!(short, Err(refusal(7, 13, 12)));
+    assert_eq!(room, message);
+}
+
+#[test]
+fn a_routine_request() {
+    let read = RoutineRequest {
+        suppress: true,
+        sub_function: SubFunction::Start,
+        identifier: 0x0203,
+        record: &[0xAA],
+    };
+    let message = [0x81, 2, 3, 0xAA];
+    assert_eq!(read_routine_request(&message), Ok(read));
+    let mut room = [0; 4];
+    assert_eq!(write_routine_request(&read, &mut room), Ok(4));
+    assert_eq!(room, message);
+    let refused = read_routine_request(&[0xFF, 2, 3]);
+    assert_eq!(refused, Err(refusal(4, 0x7F, 0)));
+}
+
+#[test]
+fn a_routine_response() {
+    let read = RoutineResponse {
+        sub_function: SubFunction::Results,
+        identifier: 0x0203,
+        record: &[],
+    };
+    assert_eq!(read_routine_response(&[3, 2, 3]), Ok(read));
+    let mut room = [0xEE; 4];
+    assert_eq!(write_routine_response(&read, &mut room), Ok(3));
+    assert_eq!(room, [3, 2, 3, 0xEE]);
+    let refused = read_routine_response(&[0x81, 2, 3]);
+    assert_eq!(refused, Err(refusal(4, 0x81, 0)));
+}
+
+#[test]
+fn a_routine_record_that_is_too_long() {
+    let record = vec![0; 65_536];
+    let mut room = vec![0; 65_539];
+    let long = RoutineResponse {
+        sub_function: SubFunction::Stop,
+        identifier: 1,
+        record: &record,
+    };
+    let refused = write_routine_response(&long, &mut room);
+    assert_eq!(refused, Err(refusal(2, 0, 0)));
+}
+
+#[test]
+fn written_widths() {
+    for (size, width) in [(u128::from(u64::MAX), 8), (1 << 64, 9), (u128::MAX, 16)] {
+        let written = Request {
+            uncompressed: size,
+            ..request(Kind::AddFile, b"a")
+        };
+        let mut room = [0; 64];
+        let count = write_request(&written, &mut room).unwrap();
+        assert_eq!((count, usize::from(room[5])), (6 + 2 * width, width));
+        assert_eq!(read_request(&room[..count]), Ok((written, &[][..])));
+        assert_eq!(desk_check(&room[..count]), Ok(()));
+    }
+}
+
+#[test]
+fn names() {
+    let bad: [&[u8]; 3] = [
+        &[0xC0, 0x80],
+        &[0xED, 0xA0, 0x80],
+        &[0xF4, 0x90, 0x80, 0x80],
+    ];
+    for name in bad {
+        assert_eq!(valid_up_to(name), 0);
+        let mut message: Vec<u8> = vec![2, 0, u8::try_from(name.len()).unwrap()];
+        message.extend(name);
+        refused_request(&message, 2, 0, 0);
+        let written = write_request(&request(Kind::DeleteFile, name), &mut [0; 9]);
+        assert_eq!(written, Err(refusal(2, 0, 0)));
+    }
+    assert_eq!(valid_up_to(&[0xF4, 0x8F, 0xBF, 0xBF]), 4);
+    assert!(read_request(&[2, 0, 4, 0xF4, 0x8F, 0xBF, 0xBF]).is_ok());
+}
+
+#[test]
+fn trouble_codes() {
+    let all = TroubleCode {
+        high: 255,
+        middle: 255,
+        low: 255,
+    };
+    assert_eq!(trouble_code(0x00FF_FFFF), Ok(all));
+    assert_eq!(trouble_code(0x0100_0000), Err(refusal(5, 0x0100_0000, 0)));
+    assert_eq!(next_trouble_code(&[]), Ok(None));
+    assert_eq!(next_trouble_code(&[1, 2]), Err(refusal(1, 3, 2)));
+    let next = next_trouble_code(&[255, 255, 255, 4]);
+    assert_eq!(next, Ok(Some((all, &[4][..]))));
+}
+
+#[test]
+fn the_desk() {
+    let message = [1, 0, 1, 0x61, 0x11, 2, 0, 255, 1, 0, 0x5A];
+    assert_eq!(desk_check(&message), Err(refusal(9, 1, 0)));
+    assert_eq!(desk_check(&message[..10]), Err(refusal(8, 0, 0)));
+    assert_eq!(desk_check(&message[..9]), Err(refusal(1, 5, 4)));
+    assert_eq!(desk_check(&[2, 0, 1, 0x61]), Ok(()));
+}

@@ -1,0 +1,147 @@
+//! What is handed in and out.
+use core::fmt;
+
+/// Why a call was refused: the number of the refusal (`docs/REFUSALS.md` says what each one means) and the two values that it carries.
+#[derive(Clone, Copy, Debug, PartialEq, Eq, Hash)]
+pub struct Refusal {
+    /// From 1 to 9.
+    pub number: u64,
+    /// The first value, or 0.
+    pub first: u64,
+    /// The second value, or 0.
+    pub second: u64,
+}
+
+impl fmt::Display for Refusal {
+    fn fmt(&self, f: &mut fmt::Formatter<'_>) -> fmt::Result {
+        write!(f, "refused {} {} {}", self.number, self.first, self.second)
+    }
+}
+
+impl core::error::Error for Refusal {}
+
+/// The six kinds of file transfer.
+#[derive(Clone, Copy, Debug, PartialEq, Eq, Hash)]
+#[repr(u8)]
+pub enum Kind {
+    /// Add a file.
+    AddFile = 1,
+    /// Delete a file.
+    DeleteFile = 2,
+    /// Replace a file.
+    ReplaceFile = 3,
+    /// Read a file.
+    ReadFile = 4,
+    /// Read a directory.
+    ReadDir = 5,
+    /// Go on with a file.
+    ResumeFile = 6,
+}
+
+impl Kind {
+    /// The kind that has this number.
+    #[must_use]
+    pub const fn from_number(number: u64) -> Option<Self> {
+        match number {
+            1 => Some(Self::AddFile),
+            2 => Some(Self::DeleteFile),
+            3 => Some(Self::ReplaceFile),
+            4 => Some(Self::ReadFile),
+            5 => Some(Self::ReadDir),
+            6 => Some(Self::ResumeFile),
+            _ => None,
+        }
+    }
+}
+
+/// The three things that can be asked of a routine.
+#[derive(Clone, Copy, Debug, PartialEq, Eq, Hash)]
+#[repr(u8)]
+pub enum SubFunction {
+    /// Start it.
+    Start = 1,
+    /// Stop it.
+    Stop = 2,
+    /// Tell its results.
+    Results = 3,
+}
+
+impl SubFunction {
+    /// The sub-function that has this number.
+    #[must_use]
+    pub const fn from_number(number: u64) -> Option<Self> {
+        match number {
+            1 => Some(Self::Start),
+            2 => Some(Self::Stop),
+            3 => Some(Self::Results),
+            _ => None,
+        }
+    }
+}
+
+/// A file transfer request. What the kind lacks is 0 when it is read, and is ignored when it is written.
+#[derive(Clone, Copy, Debug, PartialEq, Eq, Hash)]
+pub struct Request<'a> {
+    /// Which of the six.
+    pub kind: Kind,
+    /// The name; UTF-8 in every request that was read.
+    pub name: &'a [u8],
+    /// The format byte.
+    pub format: u8,
+    /// The uncompressed size.
+    pub uncompressed: u128,
+    /// The compressed size.
+    pub compressed: u128,
+}
+
+/// A file transfer response. What the kind lacks is 0 or empty when it is read, and is ignored when it is written.
+#[derive(Clone, Copy, Debug, PartialEq, Eq, Hash)]
+pub struct Response<'a> {
+    /// Which of the six.
+    pub kind: Kind,
+    /// The block length, as it was sent.
+    pub block: &'a [u8],
+    /// The format byte.
+    pub format: u8,
+    /// The uncompressed size; of a `ReadDir` response the one size.
+    pub uncompressed: u128,
+    /// The compressed size.
+    pub compressed: u128,
+    /// Where a `ResumeFile` response goes on.
+    pub position: u64,
+}
+
+/// A routine request.
+#[derive(Clone, Copy, Debug, PartialEq, Eq, Hash)]
+pub struct RoutineRequest<'a> {
+    /// Whether the positive response is to be suppressed.
+    pub suppress: bool,
+    /// What is asked.
+    pub sub_function: SubFunction,
+    /// Of which routine.
+    pub identifier: u16,
+    /// All that follows.
+    pub record: &'a [u8],
+}
+
+/// A routine response.
+#[derive(Clone, Copy, Debug, PartialEq, Eq, Hash)]
+pub struct RoutineResponse<'a> {
+    /// What was asked.
+    pub sub_function: SubFunction,
+    /// Of which routine.
+    pub identifier: u16,
+    /// All that follows.
+    pub record: &'a [u8],
+}
+
+/// A trouble code.
+#[derive(Clone, Copy, Debug, PartialEq, Eq, Hash)]
+pub struct TroubleCode {
+    /// Its first byte.
+    pub high: u8,
+    /// Its second byte.
+    pub middle: u8,
+    /// Its third byte.
+    pub low: u8,
+}
