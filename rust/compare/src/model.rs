@@ -64,15 +64,21 @@ impl Rest<'_> {
     }
 }
 
-pub fn read_request(message: &[u8]) -> Answer<FileTransfer> {
+/// The message with its mode read, whatever that is.
+fn begun(message: &[u8]) -> Answer<(Rest<'_>, FileTransfer)> {
     let mut rest = Rest {
         bytes: message,
         at: 0,
     };
-    let mut read = FileTransfer {
+    let read = FileTransfer {
         kind: rest.byte()?,
         ..FileTransfer::default()
     };
+    Ok((rest, read))
+}
+
+pub fn read_request(message: &[u8]) -> Answer<FileTransfer> {
+    let (mut rest, mut read) = begun(message)?;
     (read.start, read.len) = rest.counted(2)?;
     let name = &message[read.start..read.start + read.len];
     if std::str::from_utf8(name).is_err() {
@@ -92,14 +98,7 @@ pub fn read_request(message: &[u8]) -> Answer<FileTransfer> {
 }
 
 pub fn read_response(message: &[u8]) -> Answer<FileTransfer> {
-    let mut rest = Rest {
-        bytes: message,
-        at: 0,
-    };
-    let mut read = FileTransfer {
-        kind: rest.byte()?,
-        ..FileTransfer::default()
-    };
+    let (mut rest, mut read) = begun(message)?;
     if !(1..=6).contains(&read.kind) {
         return Err(Refusal::new(3, read.kind.into(), 0));
     }
