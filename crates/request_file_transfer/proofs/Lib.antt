@@ -3,3 +3,4 @@ pub mod Requests
 pub mod Laid
 pub mod Unique
 pub mod DemandThree
+pub mod NameHeld

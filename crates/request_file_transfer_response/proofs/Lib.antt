@@ -2,3 +2,4 @@ pub mod Cases
 pub mod Laid
 pub mod Unique
 pub mod DemandThree
+pub mod SentHeld

@@ -4,9 +4,9 @@ use Prim.Native.Nat.{ℕ, _≤_}
 use mathlib.Core.Path.{_≡_, refl, sym, ap, _∙_}
 use mathlib.Core.List.{List}
 use contract.Lifetimes.{Lfts}
-use denote.Ref.{now}
+use denote.Ref.{RefT, ptr, now}
 use denote.Triple.Clauses.{AtExit}
-use borrow.Fn.Kinds.{endedOf}
+use borrow.Fn.Kinds.{Dens, endedOf}
 use borrow.Fn.World.{ArgsD}
 use lib.ListN.{length}
 use Rattle.paper.specs.Response as paper
@@ -14,7 +14,8 @@ use Rattle.paper.specs.Response.{Response, nothing, twoSizes, oneSize, place, e
 use Rattle.wire.specs.Reading.{Seen, found, stopped}
 use Rattle.wire.specs.declared.size.Size.{Size}
 use Rattle.wire.specs.declared.write.WriteAnswer.{WriteAnswer}
-use Rattle.wire.proofs.Unique.{Determined, once, placeOf, place-back}
+use Rattle.wire.proofs.Unique.{Determined, once, placeOf, place-back, part-at-determined}
+use Rattle.wire.proofs.UniqueHeld.{Settled, settled}
 use Rattle.wire.proofs.UniqueWriting.{answerBack, answer-back, wrote-once}
 use Rattle.file_operation.specs.declared.payload.DirSizePayload.{DirSizePayload}
 use Rattle.file_operation.specs.declared.rewrite.RewriteAnswer.{RewriteAnswer}
@@ -26,6 +27,7 @@ use Rattle.request_file_transfer_response.specs.declared.layout.AfterFor
 use Rattle.request_file_transfer_response.specs.declared.layout.AfterMode.{AfterMode}
 use Rattle.request_file_transfer_response.specs.declared.read.RequestFileTransferResponse.{RequestFileTransferResponse}
 use Rattle.request_file_transfer_response.specs.declared.read.ResponseAnswer.{ResponseAnswer}
+use Rattle.request_file_transfer_response.proofs.SentHeld.{sentData}
 use Rattle.request_file_transfer_response.proofs.layout.after_mode.Kinds as after-mode-kinds
 use Rattle.request_file_transfer_response.proofs.layout.after_mode.Reads as after-mode
 use Rattle.request_file_transfer_response.proofs.read.RequestFileTransferResponse.dir_size.Kinds as dir-size-kinds
@@ -34,6 +36,14 @@ use Rattle.request_file_transfer_response.proofs.read.ResponseAnswer.re
 use Rattle.request_file_transfer_response.proofs.read.ResponseAnswer.refusal.Reads as refusal
 use Rattle.request_file_transfer_response.proofs.read.read_response.Kinds as read-response-kinds
 use Rattle.request_file_transfer_response.proofs.read.read_response.Reads as read-response
+use Rattle.request_file_transfer_response.proofs.sent_data.SentDataPayload.fits.Kinds as fits-kinds
+use Rattle.request_file_transfer_response.proofs.sent_data.SentDataPayload.fits.Reads as fits
+use Rattle.request_file_transfer_response.proofs.sent_data.SentDataPayload.new as new
+use Rattle.request_file_transfer_response.proofs.sent_data.SentDataPayload.«max_number_of_block_length» as max-number-of-block-length
+use Rattle.request_file_transfer_response.proofs.sent_data.SentDataPayload.held as held
+use Rattle.request_file_transfer_response.proofs.sent_data.sent_data_at as sent-data-at
+use Rattle.request_file_transfer_response.proofs.sent_data.block_length_of.Kinds as block-length-of-kinds
+use Rattle.request_file_transfer_response.proofs.sent_data.block_length_of.Reads as block-length-of
 use Rattle.request_file_transfer_response.proofs.write.needed.Kinds as needed-kinds
 use Rattle.request_file_transfer_response.proofs.write.needed.Reads as needed
 use Rattle.request_file_transfer_response.proofs.write.write_response as write-response
@@ -115,6 +125,32 @@ dir-size-determined κs a x y r₁ r₂ p q = ap dirSizeOf (p ∙ sym q)
 -- the refusal in an answer
 pub refusal-determined : Determined 0 refusal-kinds.ps refusal-kinds.r refusal.Post
 refusal-determined κs a x y r₁ r₂ p q = p ∙ sym q
+
+-- ---- the block length record
+-- whether one byte can count a block length
+pub fits-determined : Determined 1 fits-kinds.ps fits-kinds.r fits.Post
+fits-determined κs a x y r₁ r₂ p q = p ∙ sym q
+
+-- the record of a slice
+pub new-determined : Settled new.ended (λ M 𝓤. new.clauses 𝓤) (λ κs r₁ r₂. r₁ ≡ r₂)
+new-determined M 𝓤 H A mem run κs a g x y r₁ r₂ = settled 𝓤 (λ p q. ap (sentData .make) (p ∙ sym q))
+
+-- the slice of a record
+pub max-number-of-block-length-determined : Settled max-number-of-block-length.ended (λ M 𝓤. max-number-of-block-length.clauses 𝓤) (λ κs r₁ r₂. r₁ ≡ r₂)
+max-number-of-block-length-determined M 𝓤 H A mem run κs a g x y r₁ r₂ = settled 𝓤 (λ p q. p ∙ sym q)
+
+-- the slice of a record that is lent
+pub held-determined : Settled held.ended (λ M 𝓤. held.clauses 𝓤) (λ κs r₁ r₂. r₁ ≡ r₂)
+held-determined M 𝓤 H A mem run κs a g x y r₁ r₂ = settled 𝓤 (λ p q. p ∙ sym q)
+
+-- of two records of the part at a place, the slices
+pub sent-data-at-determined : Settled sent-data-at.ended (λ M 𝓤. sent-data-at.clauses 𝓤) (λ κs r₁ r₂. (ptr (r₁ .«max_number_of_block_length») ≡ ptr (r₂ .«max_number_of_block_length»)) × (now (r₁ .«max_number_of_block_length») ≡ now (r₂ .«max_number_of_block_length»)))
+sent-data-at-determined M 𝓤 H A mem run κs a g x y r₁ r₂ = settled 𝓤 (part-at-determined κs a x y (r₁ .«max_number_of_block_length») (r₂ .«max_number_of_block_length»))
+
+-- of two parts at a place the pointers are the same, and the bytes are
+pub block-length-of-determined : (κs : Lfts 1) (a : Dens κs block-length-of-kinds.ps) (x y : AtExit (endedOf 1 block-length-of-kinds.ps block-length-of-kinds.r) κs) (r₁ r₂ : RefT (List ℕ))
+    → block-length-of.Post κs a r₁ x → block-length-of.Post κs a r₂ y → (ptr r₁ ≡ ptr r₂) × (now r₁ ≡ now r₂)
+block-length-of-determined = part-at-determined
 
 -- ---- writing
 -- how many bytes the response takes, or the refusal

@@ -2,4 +2,5 @@
 pub mod layout;
 pub mod read;
 pub mod rewrite;
+pub mod sent_data;
 pub mod write;

@@ -11,3 +11,5 @@ pub mod Writes
 pub mod LowBytes
 pub mod Unique
 pub mod UniqueWriting
+pub mod HeldSlice
+pub mod UniqueHeld
