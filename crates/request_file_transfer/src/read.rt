@@ -24,12 +24,12 @@ ghost use Rattle.wire.specs.Size.{value};
 ghost use Rattle.request_file_transfer.specs.Layout.{layoutOf};
 ghost use Rattle.request_file_transfer.specs.Reading.{seenRest, RestRight, seenRequest, RequestRight};
 
-// A request; its name is a place of the message. What the kind lacks is 0.
+// A request; its name is a place of the message. What the kind lacks is 0. The single bytes come last, as in a response.
 pub struct RequestFileTransferRequest {
-    pub kind: FileOperationMode,
     pub file_path_and_name: Place,
-    pub data_format_identifier: DataFormatIdentifier,
     pub size: SizePayload,
+    pub kind: FileOperationMode,
+    pub data_format_identifier: DataFormatIdentifier,
 }
 
 impl RequestFileTransferRequest {

@@ -32,13 +32,14 @@ ghost use Rattle.request_file_transfer_response.specs.Layout.{moreOf, la
 ghost use Rattle.request_file_transfer_response.specs.Reading.{seenMore, MoreRight, seenBody, BodyRight, seenResponse, ResponseRight};
 
 // A response; its block length is a place of the message, whose bytes are handed on as sent. What the kind lacks is 0 or the empty place.
-// The one size of a ReadDir response stands as the uncompressed.
+// The one size of a ReadDir response stands as the uncompressed. The single bytes come last: so laid out, a response is handed on
+// without waiting for them (docs/SPEED.md).
 pub struct RequestFileTransferResponse {
-    pub kind: FileOperationMode,
     pub max_number_of_block_length: Place,
-    pub data_format_identifier: DataFormatIdentifier,
     pub file_size: FileSizePayload,
     pub position: PositionPayload,
+    pub kind: FileOperationMode,
+    pub data_format_identifier: DataFormatIdentifier,
 }
 
 impl RequestFileTransferResponse {
@@ -71,8 +72,8 @@ impl ResponseAnswer {
 
 // What stands after the format byte.
 struct More {
-    file_size: FileSizePayload,
     position: PositionPayload,
+    file_size: FileSizePayload,
 }
 
 enum MoreAnswer {

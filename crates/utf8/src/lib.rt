@@ -308,9 +308,12 @@ pub fn valid_up_to(name: &[u8]) -> usize
     at + by_characters(&name[at..])
 }
 
-// Whether the whole name is UTF-8. An empty name is.
+// Whether the whole name is UTF-8. An empty name is. A name shorter than a block is at once read by its characters.
 pub fn is_utf8(name: &[u8]) -> bool
     ensures { λ r. ⌜ r ≡ isUtf8 (now (name .entry)) ⌝ }
 {
+    if name.len() < 64 {
+        return by_characters(name) == name.len();
+    }
     valid_up_to(name) == name.len()
 }

@@ -21,6 +21,17 @@ pub(crate) mod original {
     include!(concat!(env!("OUT_DIR"), "/format_identifiers.rs"));
 }
 
+/// The original's own types and calls, for those who time it and want no translation of its answers on the way.
+pub mod itself {
+    pub use crate::missing::Error;
+    pub use crate::original::request_file_transfer::{
+        NamePayload, RequestFileTransferRequest, RequestFileTransferResponse,
+    };
+    pub use crate::original::routine_control::{RoutineControlRequest, RoutineControlResponse};
+    pub use crate::original::status::DtcRecord;
+    pub use automotive_wire_codec::{Decode, DecodeIter, Encode};
+}
+
 /// What the original files look for under this name.
 pub(crate) mod shared {
     pub(crate) use crate::missing::SuppressablePositiveResponse;

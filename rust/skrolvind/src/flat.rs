@@ -177,6 +177,7 @@ mod c {
 
 /// `skr_read_request`.
 #[must_use]
+#[inline]
 pub fn read_request(message: &[u8]) -> FileTransfer {
     // SAFETY: the pointer and the length are those of one slice.
     unsafe { c::skr_read_request(message.as_ptr(), message.len()) }
@@ -184,6 +185,7 @@ pub fn read_request(message: &[u8]) -> FileTransfer {
 
 /// `skr_read_response`.
 #[must_use]
+#[inline]
 pub fn read_response(message: &[u8]) -> FileTransfer {
     // SAFETY: the pointer and the length are those of one slice.
     unsafe { c::skr_read_response(message.as_ptr(), message.len()) }
@@ -191,6 +193,7 @@ pub fn read_response(message: &[u8]) -> FileTransfer {
 
 /// `skr_read_routine_request`.
 #[must_use]
+#[inline]
 pub fn read_routine_request(message: &[u8]) -> Routine {
     // SAFETY: the pointer and the length are those of one slice.
     unsafe { c::skr_read_routine_request(message.as_ptr(), message.len()) }
@@ -198,12 +201,14 @@ pub fn read_routine_request(message: &[u8]) -> Routine {
 
 /// `skr_read_routine_response`.
 #[must_use]
+#[inline]
 pub fn read_routine_response(message: &[u8]) -> Routine {
     // SAFETY: the pointer and the length are those of one slice.
     unsafe { c::skr_read_routine_response(message.as_ptr(), message.len()) }
 }
 
 /// `skr_write_request`.
+#[inline]
 pub fn write_request(kind: u8, name: &[u8], format: u8, s: Sizes, room: &mut [u8]) -> Written {
     let (n, n_len) = (name.as_ptr(), name.len());
     let (r, r_len) = (room.as_mut_ptr(), room.len());
@@ -214,6 +219,7 @@ pub fn write_request(kind: u8, name: &[u8], format: u8, s: Sizes, room: &mut [u8
 }
 
 /// `skr_write_response`.
+#[inline]
 pub fn write_response(
     kind: u8,
     block: &[u8],
@@ -231,6 +237,7 @@ pub fn write_response(
 }
 
 /// `skr_write_routine_request`.
+#[inline]
 pub fn write_routine_request(
     suppress: bool,
     sub: u8,
@@ -245,6 +252,7 @@ pub fn write_routine_request(
 }
 
 /// `skr_write_routine_response`.
+#[inline]
 pub fn write_routine_response(sub: u8, identifier: u16, record: &[u8], room: &mut [u8]) -> Written {
     let (d, d_len) = (record.as_ptr(), record.len());
     let (r, r_len) = (room.as_mut_ptr(), room.len());
@@ -253,6 +261,7 @@ pub fn write_routine_response(sub: u8, identifier: u16, record: &[u8], room: &mu
 }
 
 /// `skr_rewrite_request`.
+#[inline]
 pub fn rewrite_request(message: &[u8], room: &mut [u8]) -> Written {
     let (m, m_len) = (message.as_ptr(), message.len());
     let (r, r_len) = (room.as_mut_ptr(), room.len());
@@ -261,6 +270,7 @@ pub fn rewrite_request(message: &[u8], room: &mut [u8]) -> Written {
 }
 
 /// `skr_rewrite_response`.
+#[inline]
 pub fn rewrite_response(message: &[u8], room: &mut [u8]) -> Written {
     let (m, m_len) = (message.as_ptr(), message.len());
     let (r, r_len) = (room.as_mut_ptr(), room.len());
@@ -270,6 +280,7 @@ pub fn rewrite_response(message: &[u8], room: &mut [u8]) -> Written {
 
 /// `skr_desk_check`.
 #[must_use]
+#[inline]
 pub fn desk_check(message: &[u8]) -> Desk {
     // SAFETY: the pointer and the length are those of one slice.
     unsafe { c::skr_desk_check(message.as_ptr(), message.len()) }
@@ -277,6 +288,7 @@ pub fn desk_check(message: &[u8]) -> Desk {
 
 /// `skr_valid_up_to`.
 #[must_use]
+#[inline]
 pub fn valid_up_to(name: &[u8]) -> u64 {
     // SAFETY: the pointer and the length are those of one slice.
     unsafe { c::skr_valid_up_to(name.as_ptr(), name.len()) }
@@ -284,12 +296,14 @@ pub fn valid_up_to(name: &[u8]) -> u64 {
 
 /// `skr_dtc_from_number`.
 #[must_use]
+#[inline]
 pub fn dtc_from_number(number: u32) -> TroubleCode {
     c::skr_dtc_from_number(number)
 }
 
 /// `skr_dtc_next`.
 #[must_use]
+#[inline]
 pub fn dtc_next(buffer: &[u8]) -> NextTroubleCode {
     // SAFETY: the pointer and the length are those of one slice.
     unsafe { c::skr_dtc_next(buffer.as_ptr(), buffer.len()) }

@@ -5,6 +5,7 @@ use crate::{
 };
 
 /// What the first three numbers of every record say.
+#[inline]
 pub(crate) const fn accepted(number: u64, first: u64, second: u64) -> Result<(), Refusal> {
     if number == 0 {
         return Ok(());
@@ -17,25 +18,33 @@ pub(crate) const fn accepted(number: u64, first: u64, second: u64) -> Result<(),
 }
 
 /// A number of the library as a byte, a length or whatever else is wanted; it is proved to be small enough.
+#[inline]
 fn as_small<T: TryFrom<u64>>(number: u64) -> T {
-    match T::try_from(number) {
-        Ok(small) => small,
-        Err(_) => unreachable!("the library answered {number} where that cannot be"),
-    }
+    T::try_from(number).unwrap_or_else(|_| impossible(number))
 }
 
+/// Takes the number by value, so that it need not lie in memory for the call that is never made.
+#[cold]
+fn impossible(number: u64) -> ! {
+    unreachable!("the library answered {number} where that cannot be")
+}
+
+#[inline]
 fn part(message: &[u8], start: u64, len: u64) -> &[u8] {
     &message[as_small(start)..][..as_small(len)]
 }
 
+#[inline]
 fn kind(number: u64) -> Kind {
     Kind::from_number(number).expect("the library answers one of the six kinds")
 }
 
+#[inline]
 fn sub_function(number: u64) -> SubFunction {
     SubFunction::from_number(number).expect("the library answers one of the three sub-functions")
 }
 
+#[inline]
 fn whole(high: u64, low: u64) -> u128 {
     u128::from(high) << 64 | u128::from(low)
 }
@@ -44,6 +53,7 @@ fn whole(high: u64, low: u64) -> u128 {
 ///
 /// # Errors
 /// Refusals 1, 2, 3 and 6.
+#[inline]
 pub fn read_request(message: &[u8]) -> Result<(Request<'_>, &[u8]), Refusal> {
     let r = flat::read_request(message);
     accepted(r.number, r.first, r.second)?;
@@ -61,6 +71,7 @@ pub fn read_request(message: &[u8]) -> Result<(Request<'_>, &[u8]), Refusal> {
 ///
 /// # Errors
 /// Refusals 1, 3 and 6.
+#[inline]
 pub fn read_response(message: &[u8]) -> Result<(Response<'_>, &[u8]), Refusal> {
     let r = flat::read_response(message);
     accepted(r.number, r.first, r.second)?;
@@ -79,6 +90,7 @@ pub fn read_response(message: &[u8]) -> Result<(Response<'_>, &[u8]), Refusal> {
 ///
 /// # Errors
 /// Refusals 1 and 4; the latter carries the low seven bits.
+#[inline]
 pub fn read_routine_request(message: &[u8]) -> Result<RoutineRequest<'_>, Refusal> {
     let r = flat::read_routine_request(message);
     accepted(r.number, r.first, r.second)?;
@@ -94,6 +106,7 @@ pub fn read_routine_request(message: &[u8]) -> Result<RoutineRequest<'_>, Refusa
 ///
 /// # Errors
 /// Refusals 1 and 4.
+#[inline]
 pub fn read_routine_response(message: &[u8]) -> Result<RoutineResponse<'_>, Refusal> {
     let r = flat::read_routine_response(message);
     accepted(r.number, r.first, r.second)?;
@@ -108,6 +121,7 @@ pub fn read_routine_response(message: &[u8]) -> Result<RoutineResponse<'_>, Refu
 ///
 /// # Errors
 /// The refusals of [`read_request`], then 9 for bytes left over, then 8 for a compressed size above the uncompressed.
+#[inline]
 pub fn desk_check(message: &[u8]) -> Result<(), Refusal> {
     let r = flat::desk_check(message);
     accepted(r.number, r.first, r.second)
@@ -115,6 +129,7 @@ pub fn desk_check(message: &[u8]) -> Result<(), Refusal> {
 
 /// The length of the longest beginning of the name that is UTF-8.
 #[must_use]
+#[inline]
 pub fn valid_up_to(name: &[u8]) -> usize {
     as_small(flat::valid_up_to(name))
 }
@@ -123,6 +138,7 @@ pub fn valid_up_to(name: &[u8]) -> usize {
 ///
 /// # Errors
 /// Refusal 5.
+#[inline]
 pub fn trouble_code(number: u32) -> Result<TroubleCode, Refusal> {
     let r = flat::dtc_from_number(number);
     accepted(r.number, r.first, r.second)?;
@@ -137,6 +153,7 @@ pub fn trouble_code(number: u32) -> Result<TroubleCode, Refusal> {
 ///
 /// # Errors
 /// Refusal 1.
+#[inline]
 pub fn next_trouble_code(buffer: &[u8]) -> Result<Option<(TroubleCode, &[u8])>, Refusal> {
     let r = flat::dtc_next(buffer);
     accepted(r.number, r.first, r.second)?;

@@ -5,6 +5,7 @@ use crate::read::accepted;
 use crate::{Refusal, Request, Response, RoutineRequest, RoutineResponse};
 
 /// The count always fits: what was written lies in the room, whose length is a `usize`.
+#[inline]
 fn count(w: Written) -> Result<usize, Refusal> {
     accepted(w.number, w.first, w.second)?;
     Ok(w.written as usize)
@@ -14,6 +15,7 @@ fn count(w: Written) -> Result<usize, Refusal> {
 ///
 /// # Errors
 /// Refusals 2 and 7.
+#[inline]
 pub fn write_request(request: &Request<'_>, room: &mut [u8]) -> Result<usize, Refusal> {
     count(flat::write_request(
         request.kind as u8,
@@ -28,6 +30,7 @@ pub fn write_request(request: &Request<'_>, room: &mut [u8]) -> Result<usize, Re
 ///
 /// # Errors
 /// Refusals 2 and 7.
+#[inline]
 pub fn write_response(response: &Response<'_>, room: &mut [u8]) -> Result<usize, Refusal> {
     count(flat::write_response(
         response.kind as u8,
@@ -43,6 +46,7 @@ pub fn write_response(response: &Response<'_>, room: &mut [u8]) -> Result<usize,
 ///
 /// # Errors
 /// Refusals 2 and 7.
+#[inline]
 pub fn write_routine_request(
     request: &RoutineRequest<'_>,
     room: &mut [u8],
@@ -60,6 +64,7 @@ pub fn write_routine_request(
 ///
 /// # Errors
 /// Refusals 2 and 7.
+#[inline]
 pub fn write_routine_response(
     response: &RoutineResponse<'_>,
     room: &mut [u8],
@@ -76,6 +81,7 @@ pub fn write_routine_response(
 ///
 /// # Errors
 /// The refusals of [`read_request`](crate::read_request), then 7.
+#[inline]
 pub fn rewrite_request(message: &[u8], room: &mut [u8]) -> Result<usize, Refusal> {
     count(flat::rewrite_request(message, room))
 }
@@ -84,6 +90,7 @@ pub fn rewrite_request(message: &[u8], room: &mut [u8]) -> Result<usize, Refusal
 ///
 /// # Errors
 /// The refusals of [`read_response`](crate::read_response), then 7.
+#[inline]
 pub fn rewrite_response(message: &[u8], room: &mut [u8]) -> Result<usize, Refusal> {
     count(flat::rewrite_response(message, room))
 }

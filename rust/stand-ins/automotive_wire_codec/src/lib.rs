@@ -8,6 +8,8 @@
 //!   width of 0 to 1 itself.
 //!
 //! The original decides everything else: the order of fields and of checks, every count of needed bytes, and the widths in use.
+//!
+//! Every function may be inlined, so that the original is not slower over them than it has to be when it is timed.
 #![no_std]
 use embedded_io::Write;
 
@@ -60,11 +62,13 @@ pub trait Encode {
 
 /// How many bytes the number takes; none for 0.
 #[must_use]
+#[inline]
 pub fn minimal_be_len(number: u128) -> usize {
     (u128::BITS - number.leading_zeros()).div_ceil(8) as usize
 }
 
 /// The number in the first `width` bytes, high first, and what follows them.
+#[inline]
 pub fn read_be_uint(buffer: &[u8], width: usize) -> Result<(u128, &[u8]), ReadNumberError> {
     if !(1..=16).contains(&width) {
         return Err(ReadNumberError::InvalidWidth(InvalidWidth { width }));
@@ -81,6 +85,7 @@ pub fn read_be_uint(buffer: &[u8], width: usize) -> Result<(u128, &[u8]), ReadNu
 }
 
 /// The number in `width` bytes, high first. The original asks only for widths that hold it.
+#[inline]
 pub fn write_be_uint<W: Write>(
     sink: &mut W,
     number: u128,
@@ -94,21 +99,25 @@ pub fn write_be_uint<W: Write>(
 }
 
 /// All the bytes.
+#[inline]
 pub fn write_all<W: Write>(sink: &mut W, bytes: &[u8]) -> Result<usize, W::Error> {
     sink.write_all(bytes).map(|()| bytes.len())
 }
 
 /// One byte.
+#[inline]
 pub fn write_u8<W: Write>(sink: &mut W, number: u8) -> Result<usize, W::Error> {
     write_all(sink, &[number])
 }
 
 /// Two bytes, high first.
+#[inline]
 pub fn write_u16_be<W: Write>(sink: &mut W, number: u16) -> Result<usize, W::Error> {
     write_all(sink, &number.to_be_bytes())
 }
 
 /// Eight bytes, high first.
+#[inline]
 pub fn write_u64_be<W: Write>(sink: &mut W, number: u64) -> Result<usize, W::Error> {
     write_all(sink, &number.to_be_bytes())
 }

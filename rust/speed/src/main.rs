@@ -1,0 +1,41 @@
+//! Times the original and this port on the same inputs, in turns, and prints their ratios as a table.
+//!
+//! The original is called as itself, this port through its binding. With `--side` one side runs alone and without a clock, so that
+//! its instructions can be counted.
+mod arguments;
+mod clock;
+mod messages;
+mod row;
+mod rows;
+mod same;
+mod table;
+
+use arguments::Arguments;
+use row::{Row, Side, Way};
+use table::Table;
+
+fn main() {
+    let arguments = Arguments::given();
+    let mut rows = rows::rows();
+    rows.retain(|row| row.what.contains(&arguments.only));
+    let (Some(side), Some(iterations)) = (arguments.side, arguments.iterations) else {
+        let table = Table {
+            rounds: arguments.rounds,
+            times: arguments.times,
+        };
+        return table.print(&rows);
+    };
+    for way in Way::BOTH {
+        if arguments.way.is_none_or(|wanted| wanted == way) {
+            run_alone(&rows, way, side, iterations);
+        }
+    }
+}
+
+fn run_alone(rows: &[Row], way: Way, side: Side, iterations: u64) {
+    for row in rows {
+        if let Some(sides) = row.sides(way) {
+            sides.of(side)(iterations, &mut vec![0; row.bytes]);
+        }
+    }
+}
