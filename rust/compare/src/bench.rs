@@ -1,9 +1,11 @@
-//! The counts, and the rooms that both sides write into.
+//! The counts, the recorder, and the rooms that both sides write into.
 use crate::expected;
+use crate::record::{Recorder, numbers, sort, with_room};
 use crate::report::{differ, hex};
 use crate::tally::{Call, Rule, Tally};
 use oracle::plain::Refusal;
 use skrolvind::flat::Written;
+use std::fmt::Debug;
 
 /// More than the longest message has, a routine message with a record that is too long among them.
 const PLENTY: usize = 66_000;
@@ -12,26 +14,54 @@ const BEHIND: usize = 16;
 
 pub struct Bench {
     pub tally: Tally,
+    pub recorder: Option<Recorder>,
     pub plenty: Vec<u8>,
     lent: Vec<u8>,
     filler: u8,
 }
 
-/// A call that writes, as the library has it and as the binding has it.
+/// A call that writes, as the library has it and as the binding has it. `input` tells what it is handed; in a recorded list that is
+/// the length of the room, the arguments and the bytes. `kind` is the kind or sub-function of a message that can be written.
 pub struct Writer<'a, F, B> {
     pub call: Call,
+    pub kind: u8,
     pub input: &'a dyn Fn() -> String,
+    pub arguments: &'a dyn Fn() -> Vec<u8>,
+    pub bytes: &'a [u8],
     pub flat: F,
     pub bound: B,
 }
 
 impl Bench {
-    pub fn new() -> Self {
+    pub fn new(recorder: Option<Recorder>) -> Self {
         Self {
             tally: Tally::default(),
+            recorder,
             plenty: vec![0; PLENTY],
             lent: vec![0; 2 * PLENTY],
             filler: 0,
+        }
+    }
+
+    /// An answer to a call that does not write was equal: it is counted, and handed to the recorder where it is the original's own.
+    pub fn equal(
+        &mut self,
+        call: Call,
+        rule: Option<Rule>,
+        sort: usize,
+        input: &[u8],
+        record: &dyn Debug,
+    ) {
+        self.tally.count(call, rule);
+        if let (Some(recorder), None) = (&mut self.recorder, rule) {
+            recorder.offer(call, sort, &[], input, || numbers(record));
+        }
+    }
+
+    /// The recorder draws anew.
+    pub fn end_part(&mut self) {
+        if let Some(recorder) = &mut self.recorder {
+            recorder.end_part();
         }
     }
 
@@ -94,7 +124,26 @@ impl Bench {
             );
         }
         self.contents(writer, wanted, room);
+        self.equal_in_room(writer, wanted, rule, room);
+    }
+
+    /// An answer to a writing call was equal, likewise.
+    fn equal_in_room<F, B>(
+        &mut self,
+        writer: &Writer<'_, F, B>,
+        wanted: Result<usize, Refusal>,
+        rule: Option<Rule>,
+        room: usize,
+    ) {
         self.tally.count(writer.call, rule);
+        if let (Some(recorder), None) = (&mut self.recorder, rule) {
+            let room_length = (room as u16).to_be_bytes();
+            let arguments = [&room_length[..], &(writer.arguments)()].concat();
+            let written = &self.plenty[..wanted.unwrap_or(0)];
+            let text = || with_room(&expected::written(wanted), written, room);
+            let sort = sort(&wanted, |_| writer.kind);
+            recorder.offer(writer.call, sort, &arguments, writer.bytes, text);
+        }
     }
 
     /// Fills the room and what is behind it, with another byte each time.

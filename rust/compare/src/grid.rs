@@ -1,5 +1,6 @@
 //! Chosen values at every boundary, each with each.
 use crate::bench::Bench;
+use crate::random::PIECES;
 use crate::write::{Routine, Transfer};
 
 const SIZES: [u128; 9] = [
@@ -79,13 +80,17 @@ fn names(len: usize) -> Vec<Vec<u8>> {
 /// Routine messages to be written, and the same as messages to be read.
 pub fn routines(bench: &mut Bench) {
     for len in SHORT_PARTS.into_iter().chain(LONG_PARTS) {
-        let record: Vec<u8> = (0..len).map(|i| (i % 251) as u8).collect();
+        let record = record(len);
         for sub_function in SUB_FUNCTIONS {
             for identifier in [0, 1, 0x00FF, 0x0100, 0x0203, 0xFFFF] {
                 routine(bench, sub_function, identifier, &record);
             }
         }
     }
+}
+
+fn record(len: usize) -> Vec<u8> {
+    (0..len).map(|i| (i % 251) as u8).collect()
 }
 
 fn routine(bench: &mut Bench, sub_function: u8, identifier: u16, record: &[u8]) {
@@ -108,7 +113,7 @@ pub fn groups(bench: &mut Bench) {
     for kind in 0..=8 {
         for width in (0..=19).chain([32, 127, 128, 255]) {
             for part in [0, 1, 2, 3] {
-                cuts(bench, &request(kind, part, width));
+                cuts(bench, &request(kind, &vec![b'n'; part], width));
                 cuts(bench, &response(kind, part, width.into()));
             }
         }
@@ -126,7 +131,7 @@ pub fn long_groups(bench: &mut Bench) {
     }
     for kind in 0..=8 {
         for part in [255, 256, 65_534, 65_535] {
-            let message = request(kind, part, 2);
+            let message = request(kind, &vec![b'n'; part], 2);
             around(bench, &message, 3 + part);
             around(bench, &message, message.len() - 1);
         }
@@ -136,20 +141,101 @@ pub fn long_groups(bench: &mut Bench) {
     }
 }
 
-fn request(kind: u8, part: usize, width: u8) -> Vec<u8> {
+/// Every length up to 300, of names, block lengths and records: what the other parts leave out between short and long. The recorder
+/// draws several times on the way.
+pub fn lengths(bench: &mut Bench) {
+    for len in 0..=300 {
+        let width = (1 + len % 16) as u8;
+        let sizes = [SIZES[len % SIZES.len()], SIZES[len / 16 % SIZES.len()]];
+        for kind in KINDS {
+            for name in names(len) {
+                bench.message(&request(kind, &name, width));
+                transfer(bench, kind, &name, sizes);
+            }
+            bench.message(&response(kind, len.min(255), width.into()));
+        }
+        for sub_function in SUB_FUNCTIONS {
+            routine(bench, sub_function, 257 * len as u16, &record(len));
+        }
+        if len == 255 {
+            bench.end_part();
+        }
+    }
+}
+
+/// Names of every length up to 300, likewise.
+pub fn name_lengths(bench: &mut Bench) {
+    for len in 0..=300 {
+        for name in names(len) {
+            bench.name(&name);
+        }
+        if len % 6 == 0 {
+            bench.end_part();
+        }
+    }
+}
+
+/// Sizes at their bounds, read and rewritten in every width that holds them, likewise.
+pub fn sizes(bench: &mut Bench) {
+    for first in SIZES {
+        for second in SIZES {
+            let bytes = [first, second].map(u128::to_be_bytes);
+            let zeros = (first | second).leading_zeros() as usize / 8;
+            for skipped in 0..=zeros.min(15) {
+                let sizes = bytes.map(|b| b[skipped..].to_vec()).concat();
+                sized(bench, 16 - skipped, &sizes);
+            }
+        }
+        bench.end_part();
+    }
+}
+
+fn sized(bench: &mut Bench, width: usize, sizes: &[u8]) {
+    for kind in 1..=6 {
+        let name = vec![b'n'; width % 3];
+        bench.message(&[&request_front(kind, &name, width as u8), sizes].concat());
+        bench.message(&[&response_front(kind, width % 3, width as u16), sizes].concat());
+    }
+}
+
+/// Numbers around the bounds of each byte, and whole and broken characters, likewise.
+pub fn bounds(bench: &mut Bench) {
+    for bit in [0, 8, 16, 24, 25, 31] {
+        for more in 0..4 {
+            bench.number((1u32 << bit).wrapping_sub(2).wrapping_add(more));
+        }
+    }
+    for piece in PIECES {
+        for len in 1..=piece.len() {
+            bench.name(&piece[..len]);
+        }
+    }
+}
+
+fn request_front(kind: u8, name: &[u8], width: u8) -> Vec<u8> {
     let mut message = vec![kind];
-    message.extend((part as u16).to_be_bytes());
-    message.extend(vec![b'n'; part]);
+    message.extend((name.len() as u16).to_be_bytes());
+    message.extend(name);
     message.extend([0x5A, width]);
+    message
+}
+
+fn request(kind: u8, name: &[u8], width: u8) -> Vec<u8> {
+    let mut message = request_front(kind, name, width);
     message.extend((0..2 * usize::from(width)).map(|i| (7 * i + 1) as u8));
     message
 }
 
-fn response(kind: u8, part: usize, width: u16) -> Vec<u8> {
+fn response_front(kind: u8, part: usize, width: u16) -> Vec<u8> {
     let mut message = vec![kind, part as u8];
     message.extend(vec![0; part]);
     message.push(0x5A);
     message.extend(width.to_be_bytes());
+    message
+}
+
+fn response(kind: u8, part: usize, width: u16) -> Vec<u8> {
+    let mut message = response_front(kind, part, width);
     let sizes = if kind == 5 { 1 } else { 2 };
     message.extend((0..sizes * usize::from(width)).map(|i| (7 * i + 1) as u8));
     message

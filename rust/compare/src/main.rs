@@ -8,6 +8,7 @@ mod grid;
 mod model;
 mod random;
 mod read;
+mod record;
 mod report;
 mod rng;
 mod sweep;
@@ -15,22 +16,25 @@ mod tally;
 mod write;
 
 use bench::Bench;
+use record::Recorder;
 use rng::Rng;
 use std::process::exit;
 use std::time::{Duration, Instant};
 
-const USAGE: &str = "usage: compare [--seconds N] [--seed N]";
+const USAGE: &str = "usage: compare [--seconds N] [--seed N] [--record FILE]";
 
 struct Arguments {
     seconds: u64,
     seed: u64,
+    record: Option<String>,
 }
 
 fn main() {
     let arguments = arguments();
     println!("seed {}", arguments.seed);
     let start = Instant::now();
-    let mut bench = Bench::new();
+    let recorder = arguments.record.as_ref();
+    let mut bench = Bench::new(recorder.map(|_| Recorder::new(arguments.seed)));
     let b = &mut bench;
     step(b, "chosen values written", grid::transfers);
     step(b, "routine messages", grid::routines);
@@ -40,18 +44,40 @@ fn main() {
     step(b, "messages of 4 to 7 chosen bytes", sweep::chosen_messages);
     step(b, "names of 4 and 5 chosen bytes", sweep::names);
     step(b, "trouble-code numbers", sweep::numbers);
+    if b.recorder.is_some() {
+        step(b, "sizes at their bounds read", grid::sizes);
+        step(b, "lengths of up to 300 bytes", grid::lengths);
+        step(b, "names of up to 300 bytes", grid::name_lengths);
+        step(b, "numbers and names at bounds", grid::bounds);
+    }
     let end = start + Duration::from_secs(arguments.seconds);
     step(b, "random", |b| random_rounds(b, arguments.seed, end));
     println!();
     bench.tally.print();
     println!("\nNo difference, in {} s.", start.elapsed().as_secs());
+    if let (Some(path), Some(recorder)) = (arguments.record, bench.recorder) {
+        save(&path, &recorder);
+    }
 }
 
-/// At least one round, and more until the time is over.
+/// Writes the list.
+fn save(path: &str, recorder: &Recorder) {
+    if let Err(error) = std::fs::write(path, recorder.text()) {
+        eprintln!("{path}: {error}");
+        exit(2)
+    }
+    let count = tally::grouped(recorder.count() as u64);
+    println!("{count} answers of the original are recorded in {path}.");
+}
+
+/// At least one round, and more until the time is over; the first alone is recorded.
 fn random_rounds(bench: &mut Bench, seed: u64, end: Instant) {
     let mut rng = Rng::new(seed);
     loop {
         random::round(bench, &mut rng);
+        if let Some(recorder) = &mut bench.recorder {
+            recorder.end();
+        }
         if Instant::now() >= end {
             return;
         }
@@ -62,6 +88,7 @@ fn random_rounds(bench: &mut Bench, seed: u64, end: Instant) {
 fn step(bench: &mut Bench, what: &str, part: impl FnOnce(&mut Bench)) {
     let (before, start) = (bench.tally.all(), Instant::now());
     part(bench);
+    bench.end_part();
     let count = tally::grouped(bench.tally.all() - before);
     let seconds = start.elapsed().as_secs_f64();
     println!("{what:<34}{count:>16} answers compared in {seconds:5.1} s");
@@ -71,19 +98,23 @@ fn arguments() -> Arguments {
     let mut arguments = Arguments {
         seconds: 60,
         seed: 1,
+        record: None,
     };
     let mut given = std::env::args().skip(1);
     while let Some(name) = given.next() {
-        let Some(value) = given.next().and_then(|v| v.parse().ok()) else {
-            usage()
-        };
+        let Some(value) = given.next() else { usage() };
         match name.as_str() {
-            "--seconds" => arguments.seconds = value,
-            "--seed" => arguments.seed = value,
+            "--seconds" => arguments.seconds = number(&value),
+            "--seed" => arguments.seed = number(&value),
+            "--record" => arguments.record = Some(value),
             _ => usage(),
         }
     }
     arguments
+}
+
+fn number(word: &str) -> u64 {
+    word.parse().unwrap_or_else(|_| usage())
 }
 
 fn usage() -> ! {

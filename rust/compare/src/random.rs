@@ -4,7 +4,7 @@ use crate::rng::Rng;
 use crate::write::{Routine, Transfer};
 
 /// Pieces of names; those from the tenth on are not UTF-8.
-const PIECES: [&[u8]; 18] = [
+pub const PIECES: [&[u8]; 18] = [
     b"a",
     b"/maps",
     b"\0",

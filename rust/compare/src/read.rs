@@ -1,5 +1,6 @@
 //! One message, and everything that can be asked of it.
 use crate::bench::Bench;
+use crate::record::sort;
 use crate::report::agree;
 use crate::tally::{Call, Rule};
 use crate::{expected, model};
@@ -21,6 +22,7 @@ impl Bench {
     fn request(&mut self, message: &[u8]) -> Result<FileTransfer, Refusal> {
         let paper = model::read_request(message);
         let original = oracle::read_request(message);
+        let record = expected::transfer(message, &original);
         agree(
             "the original reads a request otherwise than document 01",
             message,
@@ -31,7 +33,7 @@ impl Bench {
             "a request is read otherwise",
             message,
             &flat::read_request(message),
-            &expected::transfer(message, &paper),
+            &record,
         );
         agree(
             "the binding reads a request otherwise",
@@ -39,13 +41,15 @@ impl Bench {
             &expected::bound_request(message),
             &paper,
         );
-        self.tally.count(Call::ReadRequest, by_width(&paper));
+        let (rule, sort) = (by_width(&original), sort(&original, |t| t.kind));
+        self.equal(Call::ReadRequest, rule, sort, message, &record);
         paper
     }
 
     fn response(&mut self, message: &[u8]) {
         let paper = model::read_response(message);
         let original = oracle::read_response(message);
+        let record = expected::transfer(message, &original);
         agree(
             "the original reads a response otherwise than document 01",
             message,
@@ -56,7 +60,7 @@ impl Bench {
             "a response is read otherwise",
             message,
             &flat::read_response(message),
-            &expected::transfer(message, &paper),
+            &record,
         );
         agree(
             "the binding reads a response otherwise",
@@ -64,12 +68,14 @@ impl Bench {
             &expected::bound_response(message),
             &paper,
         );
-        self.tally.count(Call::ReadResponse, by_width(&paper));
+        let (rule, sort) = (by_width(&original), sort(&original, |t| t.kind));
+        self.equal(Call::ReadResponse, rule, sort, message, &record);
     }
 
     fn routine_request(&mut self, message: &[u8]) {
         let paper = model::read_routine_request(message);
         let original = oracle::read_routine_request(message);
+        let record = expected::routine(&original);
         agree(
             "the original reads a routine request otherwise than document 01",
             message,
@@ -80,7 +86,7 @@ impl Bench {
             "a routine request is read otherwise",
             message,
             &flat::read_routine_request(message),
-            &expected::routine(&paper),
+            &record,
         );
         agree(
             "the binding reads a routine request otherwise",
@@ -88,14 +94,16 @@ impl Bench {
             &expected::bound_routine_request(message),
             &paper,
         );
-        let judged = matches!(paper, Err(r) if r.number == 4);
+        let judged = matches!(original, Err(r) if r.number == 4);
         let rule = judged.then_some(Rule::SubFunctionByte);
-        self.tally.count(Call::ReadRoutineRequest, rule);
+        let sort = sort(&original, |r| r.sub_function);
+        self.equal(Call::ReadRoutineRequest, rule, sort, message, &record);
     }
 
     fn routine_response(&mut self, message: &[u8]) {
         let paper = model::read_routine_response(message);
         let original = oracle::read_routine_response(message);
+        let record = expected::routine(&original);
         agree(
             "the original reads a routine response otherwise than document 01",
             message,
@@ -106,7 +114,7 @@ impl Bench {
             "a routine response is read otherwise",
             message,
             &flat::read_routine_response(message),
-            &expected::routine(&paper),
+            &record,
         );
         agree(
             "the binding reads a routine response otherwise",
@@ -114,7 +122,8 @@ impl Bench {
             &expected::bound_routine_response(message),
             &paper,
         );
-        self.tally.count(Call::ReadRoutineResponse, None);
+        let sort = sort(&original, |r| r.sub_function);
+        self.equal(Call::ReadRoutineResponse, None, sort, message, &record);
     }
 
     fn desk(&mut self, message: &[u8], request: &Result<FileTransfer, Refusal>) {
@@ -152,12 +161,13 @@ impl Bench {
             &skrolvind::valid_up_to(name),
             &good,
         );
-        self.tally.count(Call::ValidUpTo, None);
+        self.equal(Call::ValidUpTo, None, 0, name, &good);
     }
 
     /// The trouble code of a number.
     pub fn number(&mut self, number: u32) {
         let original = oracle::trouble_code(number);
+        let record = expected::code(original);
         let bytes = number.to_be_bytes();
         agree(
             "the original makes another trouble code of a number than document 01",
@@ -169,7 +179,7 @@ impl Bench {
             "another trouble code is made of a number",
             &bytes,
             &flat::dtc_from_number(number),
-            &expected::code(original),
+            &record,
         );
         agree(
             "the binding makes another trouble code of a number",
@@ -177,12 +187,14 @@ impl Bench {
             &expected::bound_code(number),
             &original,
         );
-        self.tally.count(Call::TroubleCode, None);
+        let sort = sort(&original, |_| 0);
+        self.equal(Call::TroubleCode, None, sort, &bytes, &record);
     }
 
     /// The next trouble code of a buffer.
     pub fn next_code(&mut self, buffer: &[u8]) {
         let original = oracle::next_trouble_code(buffer);
+        let record = expected::next(buffer, original);
         agree(
             "the original finds another next trouble code than document 01",
             buffer,
@@ -193,7 +205,7 @@ impl Bench {
             "another next trouble code is found",
             buffer,
             &flat::dtc_next(buffer),
-            &expected::next(buffer, original),
+            &record,
         );
         agree(
             "the binding finds another next trouble code",
@@ -201,7 +213,8 @@ impl Bench {
             &expected::bound_next(buffer),
             &original,
         );
-        self.tally.count(Call::NextTroubleCode, None);
+        let sort = sort(&original, |_| 0);
+        self.equal(Call::NextTroubleCode, None, sort, buffer, &record);
     }
 }
 

@@ -28,6 +28,18 @@ impl Transfer<'_> {
         )
     }
 
+    /// All but the name or block length, as a recorded list has it.
+    fn arguments(&self) -> Vec<u8> {
+        let [uncompressed, compressed] = self.sizes;
+        [
+            &[self.kind, self.format][..],
+            &uncompressed.to_be_bytes(),
+            &compressed.to_be_bytes(),
+            &self.position.to_be_bytes(),
+        ]
+        .concat()
+    }
+
     fn flat_sizes(&self) -> Sizes {
         Sizes::new(self.sizes[0], self.sizes[1])
     }
@@ -53,6 +65,12 @@ impl Routine<'_> {
         )
     }
 
+    /// All but the record, as a recorded list has it.
+    fn arguments(&self) -> Vec<u8> {
+        let [high, low] = self.identifier.to_be_bytes();
+        vec![self.suppress.into(), self.sub_function, high, low]
+    }
+
     /// The answer where the original is not asked: a sub-function that it cannot be handed, or a record that is too long.
     fn by_rule(&self) -> Option<(Refusal, Rule)> {
         if !(1..=3).contains(&self.sub_function) {
@@ -66,6 +84,11 @@ impl Routine<'_> {
     }
 }
 
+/// The first byte of a message, which says its kind.
+fn first(message: &[u8]) -> u8 {
+    message.first().copied().unwrap_or(0)
+}
+
 /// The answer to a kind that the original cannot be handed.
 fn no_such_kind(kind: u8) -> Option<Refusal> {
     (!(1..=6).contains(&kind)).then(|| Refusal::new(3, kind.into(), 0))
@@ -76,7 +99,10 @@ impl Bench {
         let [uncompressed, compressed] = t.sizes;
         let writer = Writer {
             call: Call::WriteRequest,
+            kind: t.kind,
             input: &|| t.told(),
+            arguments: &|| t.arguments(),
+            bytes: t.part,
             flat: |room: &mut [u8]| {
                 flat::write_request(t.kind, t.part, t.format, t.flat_sizes(), room)
             },
@@ -104,7 +130,10 @@ impl Bench {
         let [uncompressed, compressed] = t.sizes;
         let writer = Writer {
             call: Call::WriteResponse,
+            kind: t.kind,
             input: &|| t.told(),
+            arguments: &|| t.arguments(),
+            bytes: t.part,
             flat: |room: &mut [u8]| {
                 flat::write_response(t.kind, t.part, t.format, t.flat_sizes(), t.position, room)
             },
@@ -138,7 +167,10 @@ impl Bench {
     pub fn written_routine_request(&mut self, r: Routine<'_>) {
         let writer = Writer {
             call: Call::WriteRoutineRequest,
+            kind: r.sub_function,
             input: &|| r.told(),
+            arguments: &|| r.arguments(),
+            bytes: r.record,
             flat: |room: &mut [u8]| {
                 flat::write_routine_request(
                     r.suppress,
@@ -174,7 +206,10 @@ impl Bench {
     pub fn written_routine_response(&mut self, r: Routine<'_>) {
         let writer = Writer {
             call: Call::WriteRoutineResponse,
+            kind: r.sub_function,
             input: &|| r.told(),
+            arguments: &|| r.arguments(),
+            bytes: r.record,
             flat: |room: &mut [u8]| {
                 flat::write_routine_response(r.sub_function, r.identifier, r.record, room)
             },
@@ -198,7 +233,10 @@ impl Bench {
     pub fn rewritten_request(&mut self, message: &[u8]) {
         let writer = Writer {
             call: Call::RewriteRequest,
+            kind: first(message),
             input: &|| hex(message),
+            arguments: &Vec::new,
+            bytes: message,
             flat: |room: &mut [u8]| flat::rewrite_request(message, room),
             bound: |room: &mut [u8]| Some(skrolvind::rewrite_request(message, room)),
         };
@@ -209,7 +247,10 @@ impl Bench {
     pub fn rewritten_response(&mut self, message: &[u8]) {
         let writer = Writer {
             call: Call::RewriteResponse,
+            kind: first(message),
             input: &|| hex(message),
+            arguments: &Vec::new,
+            bytes: message,
             flat: |room: &mut [u8]| flat::rewrite_response(message, room),
             bound: |room: &mut [u8]| Some(skrolvind::rewrite_response(message, room)),
         };
