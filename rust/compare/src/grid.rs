@@ -163,16 +163,27 @@ pub fn lengths(bench: &mut Bench) {
     }
 }
 
-/// Names of every length up to 300, likewise.
-pub fn name_lengths(bench: &mut Bench) {
+/// A name of each length up to 300, of characters of one length each, with a piece amid them, likewise.
+pub fn long_names(bench: &mut Bench) {
     for len in 0..=300 {
-        for name in names(len) {
-            bench.name(&name);
-        }
-        if len % 6 == 0 {
-            bench.end_part();
-        }
+        bench.name(&long_name(len));
+        bench.end_part();
     }
+}
+
+fn long_name(len: usize) -> Vec<u8> {
+    let character = ["a", "é", "日", "𐍈", "\0"][len % 5].as_bytes();
+    let piece = PIECES.get(len / 5 % (PIECES.len() + 1)).copied();
+    let mut name = vec![b'b'; len % 3];
+    while name.len() + character.len() <= len / 2 {
+        name.extend(character);
+    }
+    name.extend(piece.unwrap_or(&[0xC1, 0xBF]));
+    while name.len() + character.len() <= len {
+        name.extend(character);
+    }
+    name.resize(len, b'c');
+    name
 }
 
 /// Sizes at their bounds, read and rewritten in every width that holds them, likewise.

@@ -47,7 +47,7 @@ fn main() {
     if b.recorder.is_some() {
         step(b, "sizes at their bounds read", grid::sizes);
         step(b, "lengths of up to 300 bytes", grid::lengths);
-        step(b, "names of up to 300 bytes", grid::name_lengths);
+        step(b, "names of up to 300 bytes", grid::long_names);
         step(b, "numbers and names at bounds", grid::bounds);
     }
     let end = start + Duration::from_secs(arguments.seconds);

@@ -17,9 +17,9 @@ const LONGEST: usize = 300;
 /// How many of a sort are drawn in a part where the message, name or record has up to so many bytes: of one whose lines are long, and
 /// of one whose lines are short (a call that only reads, and was refused or has no kinds).
 const QUOTAS: [(usize, [usize; 2]); 4] = [
-    (8, [50, 300]),
+    (8, [49, 300]),
     (20, [10, 40]),
-    (64, [6, 20]),
+    (64, [5, 20]),
     (LONGEST, [2, 2]),
 ];
 /// What stands in a room before the call.
