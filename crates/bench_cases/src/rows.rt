@@ -40,7 +40,7 @@ fn is(x: Size, low: u64) -> bool {
     x.high == 0 && x.low == low
 }
 
-pub fn request_refused(s: &[u8], number: usize, first: usize, second: usize) -> bool {
+pub(crate) fn request_refused(s: &[u8], number: usize, first: usize, second: usize) -> bool {
     match read_request(s) {
         RequestAnswer::Accepted(_, _) => false,
         RequestAnswer::Refused(e) => says(e, number, first, second),
@@ -48,7 +48,7 @@ pub fn request_refused(s: &[u8], number: usize, first: usize, second: usize) -> 
 }
 
 // Accepted with nothing left over.
-pub fn request_is(
+pub(crate) fn request_is(
     s: &[u8],
     kind: u8,
     name: &[u8],
@@ -70,7 +70,7 @@ pub fn request_is(
     fields && sizes && same(part_at(s, place), name)
 }
 
-pub fn rewritten_to(s: &[u8], expected: &[u8]) -> bool {
+pub(crate) fn rewritten_to(s: &[u8], expected: &[u8]) -> bool {
     let mut out = [0u8; 64];
     match rewrite_request(s, &mut out) {
         RewriteAnswer::Accepted { written, tail } => {
@@ -91,7 +91,7 @@ pub fn rewritten_to(s: &[u8], expected: &[u8]) -> bool {
 }
 
 // Accepted with nothing left over; no sizes but the first, and no position.
-pub fn response_is(s: &[u8], kind: u8, block: &[u8], format: u8, uncompressed: u64) -> bool {
+pub(crate) fn response_is(s: &[u8], kind: u8, block: &[u8], format: u8, uncompressed: u64) -> bool {
     let a = read_response(s);
     let ResponseAnswer::Accepted(q, tail) = a else {
         return false;
@@ -108,7 +108,7 @@ pub fn response_is(s: &[u8], kind: u8, block: &[u8], format: u8, uncompressed: u
     fields && numbers && same(part_at(s, place), block)
 }
 
-pub fn routine_request_is(
+pub(crate) fn routine_request_is(
     s: &[u8],
     suppress: bool,
     sub_function: u8,
@@ -127,7 +127,12 @@ pub fn routine_request_is(
     fields && same(part_at(s, place), record)
 }
 
-pub fn routine_response_refused(s: &[u8], number: usize, first: usize, second: usize) -> bool {
+pub(crate) fn routine_response_refused(
+    s: &[u8],
+    number: usize,
+    first: usize,
+    second: usize,
+) -> bool {
     match read_routine_response(s) {
         RoutineControlResponseAnswer::Accepted(_) => false,
         RoutineControlResponseAnswer::Refused(e) => says(e, number, first, second),
@@ -135,16 +140,16 @@ pub fn routine_response_refused(s: &[u8], number: usize, first: usize, second: u
 }
 
 // The width of a larger size, beside a smaller one.
-pub fn width_is(high: u64, low: u64, width: usize) -> bool {
+pub(crate) fn width_is(high: u64, low: u64, width: usize) -> bool {
     width_of_both(Size { high: 0, low: 1 }, Size { high, low }) == width
 }
 
 // Whether the name check accepts.
-pub fn name_is(name: &[u8], good: bool) -> bool {
+pub(crate) fn name_is(name: &[u8], good: bool) -> bool {
     utf8::is_utf8(name) == good
 }
 
-pub fn number_is(n: u32, high: u8, middle: u8, low: u8) -> bool {
+pub(crate) fn number_is(n: u32, high: u8, middle: u8, low: u8) -> bool {
     match DtcRecord::from_u32(n) {
         DtcRecordAnswer::Accepted(r) => r.high_byte() == high
             && r.middle_byte() == middle
@@ -153,7 +158,7 @@ pub fn number_is(n: u32, high: u8, middle: u8, low: u8) -> bool {
     }
 }
 
-pub fn number_refused(n: u32, number: usize, first: usize, second: usize) -> bool {
+pub(crate) fn number_refused(n: u32, number: usize, first: usize, second: usize) -> bool {
     match DtcRecord::from_u32(n) {
         DtcRecordAnswer::Accepted(_) => false,
         DtcRecordAnswer::Refused(e) => says(e, number, first, second),

@@ -163,7 +163,7 @@ fn name_and_number_rows(t: Tally) -> Tally {
     )
 }
 
-pub fn all_rows(t: Tally) -> Tally {
+pub(crate) fn all_rows(t: Tally) -> Tally {
     let t = request_rows(t);
     let t = response_and_routine_rows(t);
     name_and_number_rows(t)

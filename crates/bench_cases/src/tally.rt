@@ -2,17 +2,17 @@
 use libc::STDOUT_FILENO;
 use std::num::wrapping_add_u64;
 
-pub struct Tally {
+pub(crate) struct Tally {
     rows: u64,
     differ: u64,
 }
 
-pub fn start() -> Tally {
+pub(crate) fn start() -> Tally {
     Tally { rows: 0, differ: 0 }
 }
 
 // `right` is whether the functions answered what the row says.
-pub fn row(t: Tally, what: &[u8], right: bool) -> Tally {
+pub(crate) fn row(t: Tally, what: &[u8], right: bool) -> Tally {
     let mut differ = t.differ;
     if right {
         io::write_all(STDOUT_FILENO, b"right    ");
@@ -28,7 +28,7 @@ pub fn row(t: Tally, what: &[u8], right: bool) -> Tally {
     }
 }
 
-pub fn sum_up(t: Tally) {
+pub(crate) fn sum_up(t: Tally) {
     io::print_decimal(STDOUT_FILENO, t.rows);
     io::write_all(STDOUT_FILENO, b" rows, ");
     io::print_decimal(STDOUT_FILENO, t.differ);

@@ -93,7 +93,7 @@ fn dtc_from_number(input: &[u8], out: &mut [u8], at: usize) -> usize
 }
 
 // The answer to the call that the letter stands for, after the first `at` bytes of the text.
-pub fn put_answer(letter: u8, input: &[u8], out: &mut [u8], at: usize) -> usize
+pub(crate) fn put_answer(letter: u8, input: &[u8], out: &mut [u8], at: usize) -> usize
     ensures { λ r. ⌜ Counts r (now (out .exit)) ⌝ }
 {
     match letter {

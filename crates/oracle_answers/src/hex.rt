@@ -14,7 +14,7 @@ fn digit(c: u8) -> u8
 }
 
 // The bytes that a text stands for, put at the start of `out` as far as it goes; how many they are.
-pub fn bytes_of(text: &[u8], out: &mut [u8]) -> usize
+pub(crate) fn bytes_of(text: &[u8], out: &mut [u8]) -> usize
     ensures { λ r. ⌜ Counts r (now (out .exit)) ⌝ }
 {
     let mut i = 0;

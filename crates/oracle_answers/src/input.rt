@@ -11,17 +11,17 @@ fn uint_at(input: &[u8], at: usize, width: usize) -> Size {
 }
 
 // In 16 bytes.
-pub fn size_at(input: &[u8], at: usize) -> Size {
+pub(crate) fn size_at(input: &[u8], at: usize) -> Size {
     uint_at(input, at, 16)
 }
 
 // In up to eight bytes.
-pub fn number_at(input: &[u8], at: usize, width: usize) -> u64 {
+pub(crate) fn number_at(input: &[u8], at: usize, width: usize) -> u64 {
     let size = uint_at(input, at, width);
     size.low
 }
 
 // In two bytes.
-pub fn two_at(input: &[u8], at: usize) -> u16 {
+pub(crate) fn two_at(input: &[u8], at: usize) -> u16 {
     (number_at(input, at, 2) % 65536) as u16
 }

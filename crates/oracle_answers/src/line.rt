@@ -42,7 +42,7 @@ fn judge(t: Tally, line: &[u8]) -> Tally {
     judged(t, line, is_right(line))
 }
 
-pub fn lines(t: Tally, page: &[u8]) -> Tally {
+pub(crate) fn lines(t: Tally, page: &[u8]) -> Tally {
     let mut t = t;
     let mut at = 0;
     while at < page.len() {

@@ -121,7 +121,7 @@ fn full_room() -> [u8; 4096]
     [0xaa; 4096]
 }
 
-pub fn put_in_room(letter: u8, input: &[u8], out: &mut [u8], at: usize) -> usize
+pub(crate) fn put_in_room(letter: u8, input: &[u8], out: &mut [u8], at: usize) -> usize
     ensures { λ r. ⌜ Counts r (now (out .exit)) ⌝ }
 {
     let mut room = full_room();

@@ -2,7 +2,7 @@
 use libc::STDOUT_FILENO;
 use std::num::wrapping_add_u64;
 
-pub struct Tally {
+pub(crate) struct Tally {
     lines: u64,
     answers: u64,
     differ: u64,
@@ -10,7 +10,7 @@ pub struct Tally {
 
 const PRINTED: u64 = 10;
 
-pub fn start() -> Tally {
+pub(crate) fn start() -> Tally {
     Tally {
         lines: 0,
         answers: 0,
@@ -19,7 +19,7 @@ pub fn start() -> Tally {
 }
 
 // A line that has no answer.
-pub fn passed(t: Tally) -> Tally {
+pub(crate) fn passed(t: Tally) -> Tally {
     Tally {
         lines: wrapping_add_u64(t.lines, 1),
         answers: t.answers,
@@ -36,7 +36,7 @@ fn print_line(number: u64, line: &[u8]) {
 }
 
 // A line that has one; `right` is whether ours is the same.
-pub fn judged(t: Tally, line: &[u8], right: bool) -> Tally {
+pub(crate) fn judged(t: Tally, line: &[u8], right: bool) -> Tally {
     let lines = wrapping_add_u64(t.lines, 1);
     let mut differ = t.differ;
     if !right {
@@ -52,7 +52,7 @@ pub fn judged(t: Tally, line: &[u8], right: bool) -> Tally {
     }
 }
 
-pub fn sum_up(t: Tally) {
+pub(crate) fn sum_up(t: Tally) {
     io::print_decimal(STDOUT_FILENO, t.answers);
     io::write_all(STDOUT_FILENO, b" answers, ");
     io::print_decimal(STDOUT_FILENO, t.differ);

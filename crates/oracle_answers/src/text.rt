@@ -11,7 +11,7 @@ fn place(at: usize, len: usize) -> usize
 }
 
 // The bytes as they are. Where there is no room for them the text is empty, and so unlike any line.
-pub fn put(bytes: &[u8], out: &mut [u8], at: usize) -> usize
+pub(crate) fn put(bytes: &[u8], out: &mut [u8], at: usize) -> usize
     ensures { λ r. ⌜ Counts r (now (out .exit)) ⌝ }
 {
     let start = place(at, out.len());
@@ -33,7 +33,7 @@ fn put_number(n: u64, out: &mut [u8], at: usize) -> usize
 }
 
 // Each with a space before it.
-pub fn put_numbers(numbers: &[u64], out: &mut [u8], at: usize) -> usize
+pub(crate) fn put_numbers(numbers: &[u64], out: &mut [u8], at: usize) -> usize
     ensures { λ r. ⌜ Counts r (now (out .exit)) ⌝ }
 {
     let mut end = place(at, out.len());
@@ -54,7 +54,7 @@ fn put_byte(b: u8, out: &mut [u8], at: usize) -> usize
 }
 
 // A space and the bytes in hexadecimal, or a dash where there are none.
-pub fn put_hex(bytes: &[u8], out: &mut [u8], at: usize) -> usize
+pub(crate) fn put_hex(bytes: &[u8], out: &mut [u8], at: usize) -> usize
     ensures { λ r. ⌜ Counts r (now (out .exit)) ⌝ }
 {
     if bytes.len() == 0 {
