@@ -13,3 +13,4 @@ pub mod RoutineControl
 pub mod TroubleCode
 pub mod Bench
 pub mod Vectors
+pub mod Lines

@@ -9,7 +9,7 @@ use lib.ListN.{length, length-append}
 use lib.Seq.{length-take-le}
 use Rattle.io.specs.Counts.{Counts}
 use Rattle.paper.specs.Answer.{Refusal, accepted, over}
-use Rattle.paper.specs.ReadingProgram.{Shown, decimal, acceptedKind, nameWord, formatWord, normalWord, leftWord, refusedWord, space, lineFeed, shownText, textOf, good, bad}
+use Rattle.paper.specs.ReadingProgram.{Shown, decimal, ascii, shownText, textOf, good, bad}
 use Rattle.wire.specs.Writing.{Wrote}
 use Rattle.wire.specs.declared.write.WriteAnswer.{WriteAnswer}
 use Rattle.wire.proofs.Over.{over-length, rest, back, filled-more, filled-as}
@@ -46,9 +46,9 @@ seven a b c d e f g = simp append-assoc
 
 -- the fields of a refusal are its text
 pub bad-is : {r : Refusal} {n a b : ℕ} → n ≡ r .number → a ≡ r .first → b ≡ r .second
-    → (((refusedWord ++ decimal n) ++ (space ++ decimal a)) ++ (space ++ decimal b)) ++ lineFeed ≡ textOf (bad r)
+    → (((ascii "refused " ++ decimal n) ++ (ascii " " ++ decimal a)) ++ (ascii " " ++ decimal b)) ++ ascii "\n" ≡ textOf (bad r)
 unfolding textOf
-bad-is {r} e f g = rw (e, f, g) (seven refusedWord (decimal (r .number)) space (decimal (r .first)) space (decimal (r .second)) lineFeed)
+bad-is {r} e f g = rw (e, f, g) (seven (ascii "refused ") (decimal (r .number)) (ascii " ") (decimal (r .first)) (ascii " ") (decimal (r .second)) (ascii "\n"))
 
 -- eleven parts, regrouped
 eleven : (a b c d e f g h i j k : List ℕ)
@@ -57,6 +57,6 @@ eleven a b c d e f g h i j k = simp append-assoc
 
 -- the fields of an accepted request are its text
 pub good-is : (k n : ℕ) (f : Shown) (m l : ℕ)
-    → ((front k n f ++ (normalWord ++ decimal m)) ++ (leftWord ++ decimal l)) ++ lineFeed ≡ textOf (good k n f m l)
+    → ((front k n f ++ (ascii " normal " ++ decimal m)) ++ (ascii " left " ++ decimal l)) ++ ascii "\n" ≡ textOf (good k n f m l)
 unfolding textOf
-good-is k n f m l = eleven acceptedKind (decimal k) nameWord (decimal n) formatWord (shownText f) normalWord (decimal m) leftWord (decimal l) lineFeed
+good-is k n f m l = eleven (ascii "accepted kind ") (decimal k) (ascii " name ") (decimal n) (ascii " format ") (shownText f) (ascii " normal ") (decimal m) (ascii " left ") (decimal l) (ascii "\n")

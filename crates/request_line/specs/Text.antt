@@ -3,7 +3,7 @@ use mathlib.Core.Path.{_≡_}
 use Prim.Native.Nat.{ℕ, _≤_}
 use mathlib.Core.List.{List, _++_}
 use lib.ListN.{length}
-use Rattle.paper.specs.ReadingProgram.{Shown, decimal, acceptedKind, nameWord, formatWord, shownText}
+use Rattle.paper.specs.ReadingProgram.{Shown, decimal, ascii, shownText}
 use Rattle.wire.specs.Writing.{Filled}
 
 -- `bytes` stand at the start of the buffer where it has room; they are n, at most `most`
@@ -12,4 +12,4 @@ Put bytes n most old new = (n ≡ length bytes) × (n ≤ most) × Filled bytes 
 
 -- `accepted kind K name N format F`
 abbrev pub front : ℕ → ℕ → Shown → List ℕ
-front k n f = (((acceptedKind ++ decimal k) ++ (nameWord ++ decimal n)) ++ formatWord) ++ shownText f
+front k n f = (((ascii "accepted kind " ++ decimal k) ++ (ascii " name " ++ decimal n)) ++ ascii " format ") ++ shownText f

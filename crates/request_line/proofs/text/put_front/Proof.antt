@@ -3,7 +3,7 @@
 use mathlib.Core.Path.{refl}
 use borrow.Author.Needs.{needs}
 use lib.Dec.{lit≤}
-use Rattle.paper.specs.ReadingProgram.{nameWord}
+use Rattle.paper.specs.ReadingProgram.{ascii}
 use Rattle.request_line.proofs.Laid.{put-leaf, put-more, put-as, put-short}
 use Rattle.request_line.proofs.text.put_front.Statement.{statement}
 use Rattle.request_line.proofs.text.put_front.Tie as tie
@@ -15,7 +15,7 @@ returns c =
     let name = word .before .before .before .before .before in
     let kind = name .before .before .before .before .before in
     let fits = kind .before .before .before .before .fits .name .fits in
-    put-as (put-more (put-more (put-more (kind .put-field .ensures) (put-short nameWord fits (name .put-field2 .ensures))) (put-leaf (word .put-bytes .ensures))) (shown .put-shown .ensures))
+    put-as (put-more (put-more (put-more (kind .put-field .ensures) (put-short (ascii " name ") fits (name .put-field2 .ensures))) (put-leaf (word .put-bytes .ensures))) (shown .put-shown .ensures))
     refl (lit≤ tt)
 
 pub put-front-spec : {M : Type 1} → statement M
