@@ -13,4 +13,5 @@ pub mod RoutineControl
 pub mod TroubleCode
 pub mod Bench
 pub mod Vectors
+pub mod Codes
 pub mod Lines

@@ -1,21 +1,25 @@
--- Worked examples of what the bench's P table leaves out, by computing the definitions: sizes, limits of a width, writing, the desk check, trouble codes.
+-- Worked examples of what the bench's P table leaves out, by computing the definitions: refusals, sizes, limits of a width, codes, writing, the desk check.
 -- Assumes nothing.
 use mathlib.Core.Path.{_≡_, refl}
 use Prim.Native.Nat.{ℕ, _-_, _^_}
-use mathlib.Core.Bool.{Bool, true, false}
-use mathlib.Core.List.{List, [], _∷_, _++_, map}
+use mathlib.Core.Bool.{true, false}
+use mathlib.Core.List.{List, [], _∷_, map}
 use lib.ListN.{replicate}
-use Rattle.paper.specs.Answer.{refusal, accepted, refused, _leaving_, _>>=_, give, refuse, over, written}
+use Rattle.paper.specs.Answer.{Refusal, refusal, tooShort, wrongFormat, unknownMode, unknownSubFunction, noTroubleCode, badWidth, noRoom, compressedAbove, leftOver, accepted, refused, _leaving_, _>>=_, give, refuse, over, written}
 use Rattle.paper.specs.Bytes.{ofBytes, toBytes}
 use Rattle.paper.specs.Utf8.{inRange, begins, firstRow, charLength, validFrom, validUpTo, isUtf8}
 use Rattle.paper.specs.Sizes.{fit, firstFit, width, less, equal, greater, compare}
-use Rattle.paper.specs.Kind.{oneOf, addFile, deleteFile, readFile, resumeFile, known}
-use Rattle.paper.specs.Field.{part, byte, headed, counted, name, numbers, sizeGroup, withCount, laid, sizesAt}
+use Rattle.paper.specs.Kind.{oneOf, addFile, deleteFile, replaceFile, readFile, readDir, resumeFile, modeOf, kinds, known}
+use Rattle.paper.specs.Field.{part, byte, headed, counted, name, numbers, sizeGroup, withCount}
 use Rattle.paper.specs.Request.{request, readRequest, requestAt, requestBytes, writeRequest}
 use Rattle.paper.specs.Response.{response, readResponse, responseAt, responseBytes, writeResponse, asRead}
-use Rattle.paper.specs.RoutineControl.{knownSub, routineBytes, wholeRest, readRoutineRequest, readRoutineResponse}
-use Rattle.paper.specs.TroubleCode.{troubleCode, allCodes, fromNumber, readTroubleCode, none, next, nextTroubleCode, testFailed, testFailedThisOperationCycle, pendingDtc, confirmedDtc, testNotCompletedSinceLastClear, testFailedSinceLastClear, testNotCompletedThisOperationCycle, warningIndicatorRequested, dtcClass, maintenanceOnly, checkAtNextHalt, checkImmediately, severityValid, emissions, safety, legislative, vobd, reservedGroup, groupOf, saeJ2012DaFormat04, reservedFormat, formatOf}
+use Rattle.paper.specs.RoutineControl.{startRoutine, stopRoutine, requestRoutineResults, RoutineRequest, RoutineResponse, byteOf, subFunctions, knownSub, routineBytes, wholeRest, readRoutineRequest, readRoutineResponse, routineRequestBytes, routineResponseBytes, writeRoutineRequest, writeRoutineResponse}
 use Rattle.paper.specs.Desk.{deskCheck}
+
+-- the table of refusals: the number of each, and what it carries
+refusals : map {B = ℕ × ℕ × ℕ} (λ (r : Refusal). (r .number, r .first, r .second)) (tooShort 4 3 ∷ wrongFormat ∷ unknownMode 7 ∷ unknownSubFunction 9 ∷ noTroubleCode 0x01000000 ∷ badWidth 17 ∷ noRoom 4 3 ∷ compressedAbove ∷ leftOver 5 ∷ [])
+    ≡ (1, 4, 3) ∷ (2, 0, 0) ∷ (3, 7, 0) ∷ (4, 9, 0) ∷ (5, 0x01000000, 0) ∷ (6, 17, 0) ∷ (7, 4, 3) ∷ (8, 0, 0) ∷ (9, 5, 0) ∷ []
+refusals = refl
 
 -- 2^64 - 1 takes 8 bytes, 2^64 takes 9, 2^128 - 1 takes 16, and two zeros take 1
 widths : map width (((2 ^ 64 - 1) ∷ 0 ∷ []) ∷ (0 ∷ (2 ^ 64) ∷ []) ∷ ((2 ^ 128 - 1) ∷ []) ∷ (0 ∷ 0 ∷ []) ∷ []) ≡ 8 ∷ 9 ∷ 16 ∷ 1 ∷ []
@@ -42,10 +46,18 @@ responses : (readResponse (0x07 ∷ []) ≡ refused (refusal 3 7 0))
 unfolding _>>=_ give refuse ofBytes oneOf known part byte headed counted numbers sizeGroup readResponse
 responses = (refl, refl, refl)
 
--- the modes on both sides of the known ones
-modes : map known (0 ∷ 1 ∷ 6 ∷ 7 ∷ 255 ∷ []) ≡ refused (refusal 3 0 0) ∷ accepted addFile ∷ accepted resumeFile ∷ refused (refusal 3 7 0) ∷ refused (refusal 3 255 0) ∷ []
-unfolding known oneOf
-modes = refl
+-- each mode and each sub-function, in order, and the bytes on both sides of them
+modes : (map modeOf kinds ≡ 1 ∷ 2 ∷ 3 ∷ 4 ∷ 5 ∷ 6 ∷ [])
+    × (map known (1 ∷ 2 ∷ 3 ∷ 4 ∷ 5 ∷ 6 ∷ []) ≡ accepted addFile ∷ accepted deleteFile ∷ accepted replaceFile ∷ accepted readFile ∷ accepted readDir ∷ accepted resumeFile ∷ [])
+    × (map known (0x00 ∷ 0x07 ∷ 0xFF ∷ []) ≡ refused (refusal 3 0x00 0) ∷ refused (refusal 3 0x07 0) ∷ refused (refusal 3 0xFF 0) ∷ [])
+unfolding oneOf known
+modes = (refl, refl, refl)
+
+sub-functions : (map byteOf subFunctions ≡ 1 ∷ 2 ∷ 3 ∷ [])
+    × (map knownSub (1 ∷ 2 ∷ 3 ∷ []) ≡ accepted startRoutine ∷ accepted stopRoutine ∷ accepted requestRoutineResults ∷ [])
+    × (map knownSub (0x00 ∷ 0x04 ∷ 0xFF ∷ []) ≡ refused (refusal 4 0x00 0) ∷ refused (refusal 4 0x04 0) ∷ refused (refusal 4 0xFF 0) ∷ [])
+unfolding oneOf knownSub
+sub-functions = (refl, refl, refl)
 
 -- routine bytes: presence before the sub-function; a request's refusal carries the low seven bits, a response's the byte
 routines : (readRoutineRequest (0x89 ∷ 0x00 ∷ []) ≡ refused (refusal 1 3 2)) × (readRoutineRequest (0x89 ∷ 0x00 ∷ 0x00 ∷ []) ≡ refused (refusal 4 9 0))
@@ -53,15 +65,34 @@ routines : (readRoutineRequest (0x89 ∷ 0x00 ∷ []) ≡ refused (refusal 1 3 2
 unfolding _>>=_ give refuse ofBytes oneOf part knownSub routineBytes wholeRest readRoutineRequest readRoutineResponse
 routines = (refl, refl, refl)
 
--- writing fills exactly the counted bytes; one byte too little room changes nothing; a kind's missing block length is ignored, over-long or not
+-- a routine message is written as it is read; a record of 65,535 bytes can be written, one of 65,536 can't
+routines-written : (routineRequestBytes (record { suppress = true; subFunction = startRoutine; identifier = 0x0203; «record» = 0xAA ∷ [] }) ≡ 0x81 ∷ 0x02 ∷ 0x03 ∷ 0xAA ∷ [])
+    × (routineRequestBytes (record { suppress = false; subFunction = stopRoutine; identifier = 0x0203; «record» = [] }) ≡ 0x02 ∷ 0x02 ∷ 0x03 ∷ [])
+    × (routineResponseBytes (record { subFunction = requestRoutineResults; identifier = 0x0203; «record» = 0xAA ∷ [] }) ≡ 0x03 ∷ 0x02 ∷ 0x03 ∷ 0xAA ∷ [])
+unfolding toBytes routineRequestBytes routineResponseBytes
+routines-written = (refl, refl, refl)
+
+abbrev long-request : ℕ → RoutineRequest
+long-request n = record { suppress = false; subFunction = startRoutine; identifier = 0; «record» = replicate n 0 }
+
+abbrev long-response : ℕ → RoutineResponse
+long-response n = record { subFunction = startRoutine; identifier = 0; «record» = replicate n 0 }
+
+routines-limit : (writeRoutineRequest (long-request 65535) ≡ accepted (routineRequestBytes (long-request 65535))) × (writeRoutineRequest (long-request 65536) ≡ refused (refusal 2 0 0))
+    × (writeRoutineResponse (long-response 65535) ≡ accepted (routineResponseBytes (long-response 65535))) × (writeRoutineResponse (long-response 65536) ≡ refused (refusal 2 0 0))
+unfolding writeRoutineRequest writeRoutineResponse
+routines-limit = (refl, refl, refl, refl)
+
+-- writing fills exactly the counted bytes, and just enough room will do; one byte too little room changes nothing; a kind's missing block length is ignored, over-long or not
 writing : (let m = request deleteFile (0x61 ∷ []) 7 8 9 in
     (written (writeRequest m) (1 ∷ 2 ∷ 3 ∷ 4 ∷ 5 ∷ []) ≡ record { answer = accepted 4; contents = 0x02 ∷ 0x00 ∷ 0x01 ∷ 0x61 ∷ 5 ∷ [] })
+    × (written (writeRequest m) (1 ∷ 2 ∷ 3 ∷ 4 ∷ []) ≡ record { answer = accepted 4; contents = 0x02 ∷ 0x00 ∷ 0x01 ∷ 0x61 ∷ [] })
     × (written (writeRequest m) (1 ∷ 2 ∷ 3 ∷ []) ≡ record { answer = refused (refusal 7 4 3); contents = 1 ∷ 2 ∷ 3 ∷ [] })
     × (written (writeRequest (request deleteFile (0xFF ∷ []) 0 0 0)) (1 ∷ []) ≡ record { answer = refused (refusal 2 0 0); contents = 1 ∷ [] })
     × (writeResponse (response deleteFile (replicate 300 0) 0 0 0 0) ≡ accepted (0x02 ∷ []))
     × (writeResponse (response addFile (replicate 256 0) 0 0 0 0) ≡ refused (refusal 2 0 0)))
 unfolding over toBytes inRange begins firstRow charLength validFrom validUpTo isUtf8 withCount requestAt requestBytes writeRequest responseAt responseBytes asRead writeResponse
-writing = (refl, refl, refl, refl, refl)
+writing = (refl, refl, refl, refl, refl, refl)
 
 -- the desk check: bytes left over before the sizes, sizes of AddFile only, equal sizes pass
 abbrev sized : ℕ → ℕ → List ℕ → List ℕ
@@ -71,36 +102,3 @@ desk : (deskCheck (sized 1 2 (0x5A ∷ [])) ≡ refused (refusal 9 1 0)) × (des
     × (deskCheck (0x04 ∷ 0x00 ∷ 0x00 ∷ 0x11 ∷ []) ≡ accepted tt) × (deskCheck [] ≡ refused (refusal 1 1 0))
 unfolding deskCheck _>>=_ give refuse ofBytes inRange begins firstRow charLength validFrom validUpTo isUtf8 oneOf known part byte headed counted name numbers sizeGroup readRequest
 desk = (refl, refl, refl, refl, refl)
-
--- trouble codes: the largest number and the one above it, and reading the next of a list
-trouble-codes : (fromNumber 0x00FFFFFF ≡ accepted allCodes) × (fromNumber 0x01000000 ≡ refused (refusal 5 0x01000000 0))
-    × (nextTroubleCode [] ≡ accepted none) × (nextTroubleCode (1 ∷ 2 ∷ []) ≡ refused (refusal 1 3 2))
-    × (nextTroubleCode (1 ∷ 2 ∷ 3 ∷ 4 ∷ []) ≡ accepted (next (troubleCode 1 2 3 leaving (4 ∷ []))))
-unfolding fromNumber readTroubleCode part _>>=_ give
-trouble-codes = (refl, refl, refl, refl, refl)
-
--- the questions in bit order; the three bytes together tell every bit from every other
-abbrev asked : List (ℕ → Bool) → List (List Bool)
-asked questions = map (λ (b : ℕ). map (λ (q : ℕ → Bool). q b) questions) (0xAA ∷ 0xCC ∷ 0xF0 ∷ [])
-
-abbrev bits-of-three : List (List Bool)
-bits-of-three =
-    (false ∷ true ∷ false ∷ true ∷ false ∷ true ∷ false ∷ true ∷ [])
-    ∷ (false ∷ false ∷ true ∷ true ∷ false ∷ false ∷ true ∷ true ∷ [])
-    ∷ (false ∷ false ∷ false ∷ false ∷ true ∷ true ∷ true ∷ true ∷ [])
-    ∷ []
-
-status : asked (testFailed ∷ testFailedThisOperationCycle ∷ pendingDtc ∷ confirmedDtc ∷ testNotCompletedSinceLastClear ∷ testFailedSinceLastClear ∷ testNotCompletedThisOperationCycle ∷ warningIndicatorRequested ∷ []) ≡ bits-of-three
-status = refl
-
-severity : asked (dtcClass 0 ∷ dtcClass 1 ∷ dtcClass 2 ∷ dtcClass 3 ∷ dtcClass 4 ∷ maintenanceOnly ∷ checkAtNextHalt ∷ checkImmediately ∷ []) ≡ bits-of-three
-severity = refl
-
-validity : map severityValid (0x01 ∷ 0x10 ∷ 0xE0 ∷ 0x00 ∷ []) ≡ true ∷ true ∷ false ∷ false ∷ []
-validity = refl
-
-groups : map groupOf (0x33 ∷ 0xD0 ∷ 0xD1 ∷ 0xDF ∷ 0xE0 ∷ 0xFE ∷ 0x00 ∷ []) ≡ emissions ∷ safety ∷ legislative ∷ legislative ∷ reservedGroup ∷ vobd ∷ reservedGroup ∷ []
-groups = refl
-
-formats : map formatOf (0x04 ∷ 0x05 ∷ []) ≡ saeJ2012DaFormat04 ∷ reservedFormat ∷ []
-formats = refl
