@@ -13,7 +13,7 @@ use Rattle.paper.specs.Kind.{oneOf, addFile, deleteFile, replaceFile, re
 use Rattle.paper.specs.Field.{part, byte, headed, counted, name, numbers, sizeGroup, withCount}
 use Rattle.paper.specs.Request.{request, readRequest, requestAt, requestBytes, writeRequest}
 use Rattle.paper.specs.Response.{response, readResponse, responseAt, responseBytes, writeResponse, asRead}
-use Rattle.paper.specs.RoutineControl.{startRoutine, stopRoutine, requestRoutineResults, RoutineRequest, RoutineResponse, byteOf, subFunctions, knownSub, routineBytes, wholeRest, readRoutineRequest, readRoutineResponse, routineRequestBytes, routineResponseBytes, writeRoutineRequest, writeRoutineResponse}
+use Rattle.paper.specs.RoutineControl.{startRoutine, stopRoutine, requestRoutineResults, byteOf, subFunctions, knownSub, routineBytes, wholeRest, readRoutineRequest, readRoutineResponse, routineRequestBytes, routineResponseBytes}
 use Rattle.paper.specs.Desk.{deskCheck}
 
 -- the table of refusals: the number of each, and what it carries
@@ -65,23 +65,12 @@ routines : (readRoutineRequest (0x89 ∷ 0x00 ∷ []) ≡ refused (refusal 1 3 2
 unfolding _>>=_ give refuse ofBytes oneOf part knownSub routineBytes wholeRest readRoutineRequest readRoutineResponse
 routines = (refl, refl, refl)
 
--- a routine message is written as it is read; a record of 65,535 bytes can be written, one of 65,536 can't
+-- routine messages as they are written
 routines-written : (routineRequestBytes (record { suppress = true; subFunction = startRoutine; identifier = 0x0203; «record» = 0xAA ∷ [] }) ≡ 0x81 ∷ 0x02 ∷ 0x03 ∷ 0xAA ∷ [])
     × (routineRequestBytes (record { suppress = false; subFunction = stopRoutine; identifier = 0x0203; «record» = [] }) ≡ 0x02 ∷ 0x02 ∷ 0x03 ∷ [])
     × (routineResponseBytes (record { subFunction = requestRoutineResults; identifier = 0x0203; «record» = 0xAA ∷ [] }) ≡ 0x03 ∷ 0x02 ∷ 0x03 ∷ 0xAA ∷ [])
 unfolding toBytes routineRequestBytes routineResponseBytes
 routines-written = (refl, refl, refl)
-
-abbrev long-request : ℕ → RoutineRequest
-long-request n = record { suppress = false; subFunction = startRoutine; identifier = 0; «record» = replicate n 0 }
-
-abbrev long-response : ℕ → RoutineResponse
-long-response n = record { subFunction = startRoutine; identifier = 0; «record» = replicate n 0 }
-
-routines-limit : (writeRoutineRequest (long-request 65535) ≡ accepted (routineRequestBytes (long-request 65535))) × (writeRoutineRequest (long-request 65536) ≡ refused (refusal 2 0 0))
-    × (writeRoutineResponse (long-response 65535) ≡ accepted (routineResponseBytes (long-response 65535))) × (writeRoutineResponse (long-response 65536) ≡ refused (refusal 2 0 0))
-unfolding writeRoutineRequest writeRoutineResponse
-routines-limit = (refl, refl, refl, refl)
 
 -- writing fills exactly the counted bytes, and just enough room will do; one byte too little room changes nothing; a kind's missing block length is ignored, over-long or not
 writing : (let m = request deleteFile (0x61 ∷ []) 7 8 9 in
