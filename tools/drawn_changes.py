@@ -3,8 +3,8 @@
 In code (the bodies of functions, and constants): a comparison turned; a number, or a letter of a byte string, one more or one less; an operator exchanged;
 two fields, two arguments or two values of a record exchanged; the two arms of a branch, or two neighbours of a match, exchanged; a condition negated; a statement
 left out; an early return always taken, or never.
-In definitions (specs/): a number one more or one less; a comparison turned; an operator exchanged; two fields, two values of a record or two list elements exchanged; two neighbouring cases, or the two
-arms of a `pick`, exchanged.
+In definitions (specs/): a number, or a letter of a text, one more or one less; a comparison turned; an operator exchanged; two fields, two values of a record or two list elements exchanged; two
+neighbouring cases, or the two arms of a `pick`, exchanged. A name that a definition's file does not import comes from where the one that it replaces does.
 Contracts in the code are left alone: they are what the changes are tried against.
 """
 import collections
@@ -16,7 +16,8 @@ class Change(collections.namedtuple("Change", "crate file text start end new sor
     """The text from `start` to `end` of a file becomes `new`."""
 
     def apply(self, folder):
-        (folder / self.file).write_text(self.text[: self.start] + self.new + self.text[self.end :], encoding="utf-8")
+        old, text = self.text[self.start : self.end], self.text[: self.start] + self.new + self.text[self.end :]
+        (folder / self.file).write_text(imported_beside(text, old, self.new), encoding="utf-8")
 
     def texts(self):
         """The whole lines that the change touches, before and after, each joined to one."""
@@ -29,6 +30,17 @@ class Change(collections.namedtuple("Change", "crate file text start end new sor
     def __str__(self):
         old, new = self.texts()
         return f"{self.crate}, {self.sort}\n    file: {self.file}\n    old: {old}\n    new: {new}"
+
+
+def imported_beside(text, old, new):
+    """Definitions that import a new name with the old one."""
+    old, new = (name if name.isalnum() else f"_{name}_" for name in (old, new))
+
+    def more(line):
+        names = line[2].split(", ")
+        return f"{line[1]}{', '.join([*names, new])}}}" if old in names and new not in names else line[0]
+
+    return re.sub(r"^(use \S+\.\{)(.*)\}$", more, text, flags=re.M)
 
 
 def joined(text):
@@ -101,6 +113,12 @@ def nearby(number):
             yield f"0x{near:0{len(plain) - 2}X}" if plain.startswith("0x") else str(near)
 
 
+def letters(text, start, end):
+    for at in range(start, end):
+        if text[at].isalnum():
+            yield at, at + 1, chr(ord(text[at]) + 1), "a letter changed by one"
+
+
 # ---- code
 
 CODE = re.compile(r"//[^\n]*|b\"(?:[^\"\\]|\\.)*\"|b'(?:[^'\\]|\\.)'|'[a-z]\w*|0x[0-9A-Fa-f_]+|\d[\d_]*|\w+|::|->|=>|<=|>=|==|!=|&&|\|\||\+=|-=|\*=|/=|\.\.=|\.\.|<<|>>|\s+|.", re.S)
@@ -167,9 +185,7 @@ def at_token(text, tokens, partner, i, fields):
         for new in nearby(token.text):
             yield token.start, token.end, new, "a number changed by one"
     elif token.text.startswith('b"'):
-        for at in range(token.start + 2, token.end - 1):
-            if text[at].isalnum():
-                yield at, at + 1, chr(ord(text[at]) + 1), "a letter changed by one"
+        yield from letters(text, token.start + 2, token.end - 1)
     elif before == "." and after not in ("(", "{") and token.text in fields:
         for new in sorted(fields[token.text]):
             yield token.start, token.end, new, "two fields exchanged"
@@ -234,7 +250,7 @@ def in_statements(text, tokens, partner):
 
 # ---- definitions
 
-DEFINITION = re.compile(r"--[^\n]*|«[^»]*»|[(){}\[\],;]|[^\s(){}\[\],;«»]+|\s+")
+DEFINITION = re.compile(r"--[^\n]*|\"(?:[^\"\\]|\\.)*\"|«[^»]*»|[(){}\[\],;]|[^\s(){}\[\],;«»]+|\s+")
 COMPARISONS = {"≤": ["<"], "<": ["≤"], "leb": ["ltb"], "ltb": ["leb"]}
 SPEC_OPERATORS = {"+": ["*", "-"], "*": ["+"], "-": ["+"], "/": ["%"], "%": ["/"], "both": ["either"], "either": ["both"], "take": ["drop"], "drop": ["take"]}
 
@@ -263,6 +279,8 @@ def at_spec_token(text, tokens, partner, i, fields):
     if re.fullmatch(r"0x[\dA-Fa-f]+|\d+", token.text) and before not in ("Type", "infixl", "infixr", "infix") and not (before == "{" and tokens[i + 1].text == "}"):
         for new in nearby(token.text):
             yield token.start, token.end, new, "a number changed by one"
+    if token.text.startswith('"'):
+        yield from letters(text, token.start + 1, token.end - 1)
     for table, sort in ((COMPARISONS, "a comparison turned"), (SPEC_OPERATORS, "an operator exchanged")):
         for new in table.get(token.text, []):
             yield token.start, token.end, new, sort
