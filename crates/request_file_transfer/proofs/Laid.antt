@@ -18,7 +18,7 @@ use Rattle.wire.specs.Refusals.{row}
 use Rattle.wire.specs.Writing.{Wrote, Filled, countedRun, sizesOut}
 use Rattle.wire.specs.declared.refusal.Refusal.{Refusal}
 use Rattle.wire.specs.declared.write.WriteAnswer.{WriteAnswer}
-use Rattle.wire.proofs.LowBytes.{length-counted, counted-good}
+use Rattle.wire.proofs.FieldBytes.{length-counted, counted-good}
 use Rattle.wire.proofs.Over.{rest, back, filled-more, filled-as}
 use Rattle.wire.proofs.Writes.{writes, passed, filled}
 use Rattle.file_operation.specs.Mode.{kindOf}

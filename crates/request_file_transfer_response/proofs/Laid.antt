@@ -20,7 +20,7 @@ use Rattle.wire.specs.declared.refusal.Refusal.{Refusal}
 use Rattle.wire.specs.declared.write.WriteAnswer.{WriteAnswer}
 use Rattle.wire.proofs.Over.{rest, back, filled-more, filled-as}
 use Rattle.wire.proofs.Writes.{writes, passed, filled}
-use Rattle.wire.proofs.LowBytes.{counted-good, length-counted}
+use Rattle.wire.proofs.FieldBytes.{counted-good, length-counted}
 use Rattle.file_operation.specs.Mode.{kindOf}
 use Rattle.file_operation.specs.Writing.{lengthIn}
 use Rattle.file_operation.proofs.Lengths.{same-refusal, same-number}

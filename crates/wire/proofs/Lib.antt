@@ -8,7 +8,7 @@ pub mod Groups
 pub mod Left
 pub mod Over
 pub mod Writes
-pub mod LowBytes
+pub mod FieldBytes
 pub mod Unique
 pub mod UniqueWriting
 pub mod HeldSlice

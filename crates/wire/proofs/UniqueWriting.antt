@@ -21,9 +21,6 @@ use Rattle.wire.proofs.write.put_two.Reads as put-two-reads
 use Rattle.wire.proofs.write.put_bytes as put-bytes
 use Rattle.wire.proofs.write.put_bytes.Kinds as put-bytes-kinds
 use Rattle.wire.proofs.write.put_bytes.Reads as put-bytes-reads
-use Rattle.wire.proofs.write.write_be_uint as write-be-uint
-use Rattle.wire.proofs.write.write_be_uint.Kinds as write-be-uint-kinds
-use Rattle.wire.proofs.write.write_be_uint.Reads as write-be-uint-reads
 use Rattle.wire.proofs.write.put_eight as put-eight
 use Rattle.wire.proofs.write.put_eight.Kinds as put-eight-kinds
 use Rattle.wire.proofs.write.put_eight.Reads as put-eight-reads
@@ -62,10 +59,6 @@ put-two-determined κs a x y r s p q = wrote-once p q
 pub put-bytes-determined : (κs : Lfts 2) (a : ArgsD put-bytes.signature κs) (x y : AtExit (endedOf 2 put-bytes-kinds.ps put-bytes-kinds.r) κs) (r s : WriteAnswer)
     → put-bytes-reads.Post κs a r x → put-bytes-reads.Post κs a s y → (r ≡ s) × (now (x .1 .0) ≡ now (y .1 .0))
 put-bytes-determined κs a x y r s p q = wrote-once p q
-
-pub write-be-uint-determined : (κs : Lfts 1) (a : ArgsD write-be-uint.signature κs) (x y : AtExit (endedOf 1 write-be-uint-kinds.ps write-be-uint-kinds.r) κs) (r s : WriteAnswer)
-    → write-be-uint-reads.Post κs a r x → write-be-uint-reads.Post κs a s y → (r ≡ s) × (now (x .1 .1 .0) ≡ now (y .1 .1 .0))
-write-be-uint-determined κs a x y r s p q = wrote-once p q
 
 pub put-eight-determined : (κs : Lfts 1) (a : ArgsD put-eight.signature κs) (x y : AtExit (endedOf 1 put-eight-kinds.ps put-eight-kinds.r) κs) (r s : WriteAnswer)
     → put-eight-reads.Post κs a r x → put-eight-reads.Post κs a s y → (r ≡ s) × (now (x .1 .0) ≡ now (y .1 .0))

@@ -37,6 +37,6 @@ malformed h = record { answer = rw h; contents = rw h }
 pub passed : {message left : Answer (List ℕ)} {old : List ℕ} {r : WriteAnswer} {new : List ℕ} → message ≡ left → Wrote left old r new → Wrote message old r new
 passed h w = rw h w
 
--- what a caller that has checked the room needs of a writer whose message is bytes (`refl`, or `counted-good` of LowBytes), whatever it answered
+-- what a caller that has checked the room needs of a writer whose message is bytes (`refl`, or `counted-good` of FieldBytes), whatever it answered
 pub filled : {message : Answer (List ℕ)} {bytes old : List ℕ} {r : WriteAnswer} {new : List ℕ} → message ≡ accepted bytes → Wrote message old r new → Filled bytes old new
 filled {bytes = bytes} {old} e w = record { given-room = λ h. w .contents ∙ ap (λ (m : Answer (List ℕ)). written m old .contents) e ∙ ap Written.contents (room bytes old refl h) }

@@ -1,11 +1,10 @@
 -- What a writer promises, and the bytes of the fields that messages share.
-use Prim.Native.Nat.{ℕ, _%_, _^_, _≤_}
+use Prim.Native.Nat.{ℕ, _≤_}
 use mathlib.Core.Path.{_≡_}
 use mathlib.Core.List.{List}
 use lib.ListN.{length}
 use lib.Dec.{leb}
 use Rattle.paper.specs.Answer.{Answer, accepted, refused, wrongFormat, check, over, written}
-use Rattle.paper.specs.Bytes.{toBytes}
 use Rattle.paper.specs.Sizes.{width}
 use Rattle.paper.specs.Field.{withCount, sizesAt}
 use Rattle.wire.specs.Refusals.{row}
@@ -26,10 +25,6 @@ pub record Filled (bytes old new : List ℕ) : Type 0 where
   pub given-room : length bytes ≤ length old → new ≡ over bytes old
 
 -- ---- the bytes of a field
--- the low w bytes of a number, high first
-unfoldable pub lowBytes : ℕ → ℕ → List ℕ
-lowBytes w n = toBytes w (n % 256 ^ w)
-
 -- bytes after their count in k bytes, which holds at most `most`
 unfoldable pub countedRun : ℕ → ℕ → List ℕ → Answer (List ℕ)
 countedRun k most x = check (leb (length x) most) wrongFormat (accepted (withCount k x))

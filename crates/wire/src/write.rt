@@ -9,11 +9,12 @@ use crate::size::width_of;
 use crate::size::width_of_both;
 ghost use mathlib.Core.Path.{_≡_};
 ghost use mathlib.Core.List.{[], _∷_};
+ghost use Prim.Native.Nat.{_^_, _<_};
 ghost use Rattle.paper.specs.Answer.{accepted};
 ghost use Rattle.paper.specs.Bytes.{toBytes};
 ghost use Rattle.wire.specs.Prefix.{prefixLen, prefixMost};
 ghost use Rattle.wire.specs.Size.{value};
-ghost use Rattle.wire.specs.Writing.{Wrote, lowBytes, countedRun, sizesOut};
+ghost use Rattle.wire.specs.Writing.{Wrote, countedRun, sizesOut};
 
 // How many bytes were written, or the refusal.
 pub enum WriteAnswer {
@@ -62,9 +63,10 @@ pub fn put_bytes(src: &[u8], out: &mut [u8]) -> WriteAnswer
     WriteAnswer::Accepted(needed)
 }
 
-// The low `width` bytes of a size, high byte first: all of it where it fits.
-pub fn write_be_uint(x: Size, width: usize, out: &mut [u8]) -> WriteAnswer
-    ensures { λ r. ⌜ Wrote (accepted (lowBytes width (value x))) (now (out .entry)) r (now (out .exit)) ⌝ }
+// A size that fits in `width` bytes, high byte first.
+fn write_be_uint(x: Size, width: usize, out: &mut [u8]) -> WriteAnswer
+    requires { ⌜ value x < 256 ^ width ⌝ }
+    ensures { λ r. ⌜ Wrote (accepted (toBytes width (value x))) (now (out .entry)) r (now (out .exit)) ⌝ }
 {
     let room = out.len();
     if room < width {

@@ -2,7 +2,7 @@
 -- Assumes nothing.
 use borrow.Author.Needs.{needs}
 use native.Mathlib.Omega.{arith}
-use Rattle.wire.proofs.LowBytes.{length-two}
+use Rattle.wire.proofs.FieldBytes.{length-two}
 use Rattle.request_file_transfer.proofs.write.rest_len.Statement.{statement}
 use Rattle.request_file_transfer.proofs.write.rest_len.Tie as tie
 

@@ -3,7 +3,7 @@
 use mathlib.Core.Path.{sym}
 use native.Mathlib.Omega.{arith}
 use Rattle.paper.proofs.Bytes.{length-toBytes}
-use Rattle.wire.proofs.LowBytes.{length-one, length-two}
+use Rattle.wire.proofs.FieldBytes.{length-one, length-two}
 use borrow.Author.Needs.{needs}
 use Rattle.request_file_transfer_response.proofs.write.more_len.Statement.{statement}
 use Rattle.request_file_transfer_response.proofs.write.more_len.Tie as tie

@@ -1,10 +1,9 @@
--- The low bytes of a number, and of what bytes the fields consist: a run after its count, sizes after their width.
+-- Of what bytes the fields consist: a number in bytes that hold it, a run after its count, sizes after their width.
 -- Assumes nothing.
 use Prim.Native.Nat.{ℕ, zero, suc, _+_, _*_, _/_, _%_, _^_, _≤_, _<_}
-use mathlib.Core.Path.{_≡_, sym, _∙_}
+use mathlib.Core.Path.{_≡_, sym, subst, _∙_}
 use mathlib.Core.List.{List, [], _∷_, _++_, append-assoc, append-nil}
-use native.Mathlib.Nat.{pow-suc, pow-succ', mod-lt, mod-eq-of-lt, div-div-eq-div-mul}
-use native.Mathlib.Numerals.{add-one}
+use native.Mathlib.Nat.{pow-suc, pow-succ', mod-lt, div-add-mod', div-div-eq-div-mul}
 use native.Mathlib.Omega.{arith}
 use borrow.Author.Tests.{lt-leb, le-leb}
 use lib.Arith.{mod-mul, digits-div, digits-mod}
@@ -19,11 +18,15 @@ use Rattle.paper.proofs.Bytes.{pow-pos, length-toBytes}
 use Rattle.paper.proofs.Sizes.{smallest-is}
 use Rattle.paper.proofs.Width.{length-sizesAt}
 use Rattle.wire.specs.Prefix.{prefixLen, prefixMost}
-use Rattle.wire.specs.Writing.{lowBytes, countedRun, sizesOut}
+use Rattle.wire.specs.Writing.{countedRun, sizesOut}
 use Rattle.wire.specs.declared.prefix.Prefix.{Prefix}
 use Rattle.wire.specs.declared.prefix.Prefix.the-variants.{One, Two}
 
--- ---- low bytes
+-- ---- a number that fits
+-- without its low byte it fits in one byte less
+pub fits-less : (w : ℕ) {n : ℕ} → n < 256 ^ suc w → n / 256 < 256 ^ w
+fits-less w h = omega (arith, pow-suc 256 w)
+
 -- one byte more at the low end
 toBytes-snoc : (w n b : ℕ) → n < 256 ^ w → b < 256 → toBytes (suc w) (n * 256 + b) ≡ toBytes w n ++ (b ∷ [])
 unfolding toBytes
@@ -34,26 +37,17 @@ toBytes-snoc (suc w) n b h s =
     let m : x % 256 ^ suc w ≡ n % 256 ^ w * 256 + b = rw pow-suc (mod-mul x (pow-pos w) (lit< tt) ∙ rw (digits-div n s, digits-mod n s)) in
     rw (q, m, toBytes-snoc w (n % 256 ^ w) b (mod-lt n (pow-pos w)) s)
 
--- the low byte comes last, after the low bytes of the number without it
-pub low-next : (w n : ℕ) → lowBytes (suc w) n ≡ lowBytes w (n / 256) ++ (n % 256 ∷ [])
-unfolding lowBytes
-low-next w n =
-    rw (pow-suc, mod-mul n (pow-pos w) (lit< tt)) (toBytes-snoc w (n / 256 % 256 ^ w) (n % 256) (mod-lt (n / 256) (pow-pos w)) (mod-lt n (lit< tt)))
+-- the low byte comes last, after the bytes of the number without it
+low-last : (w n : ℕ) → n < 256 ^ suc w → toBytes (suc w) n ≡ toBytes w (n / 256) ++ (n % 256 ∷ [])
+low-last w n h =
+    subst (λ (m : ℕ). toBytes (suc w) m ≡ toBytes w (n / 256) ++ (n % 256 ∷ [])) (div-add-mod' n 256) (toBytes-snoc w (n / 256) (n % 256) (fits-less w h) (mod-lt n (lit< tt)))
 
 -- the bytes still to come, in front of those that stand there, stay the same where the low byte is stored
-pub low-store : (i n : ℕ) (out : List ℕ) → i < length out → lowBytes i (n / 256) ++ drop i (set out i (n % 256)) ≡ lowBytes (i + 1) n ++ drop (i + 1) out
-low-store i n out h =
-    rw (add-one, low-next, drop-cons (set out i (n % 256)) i 0 (lt-length-set out i (n % 256) h), getD-set-same out i (n % 256) 0 h, drop-set-lt (suc i) out i (n % 256) (omega arith))
-    (sym (append-assoc (lowBytes i (n / 256)) (n % 256 ∷ []) (drop (suc i) out)))
-
--- a number that fits is written whole
-pub low-all : (w n : ℕ) → n < 256 ^ w → lowBytes w n ≡ toBytes w n
-unfolding lowBytes
-low-all w n h = rw (mod-eq-of-lt h)
-
-pub length-low : (w n : ℕ) → length (lowBytes w n) ≡ w
-unfolding lowBytes
-length-low w n = length-toBytes w (n % 256 ^ w)
+pub low-store : (w n : ℕ) (out : List ℕ) → n < 256 ^ suc w → w < length out
+    → toBytes w (n / 256) ++ drop w (set out w (n % 256)) ≡ toBytes (suc w) n ++ drop (suc w) out
+low-store w n out h l =
+    rw (low-last w n h, drop-cons (set out w (n % 256)) w 0 (lt-length-set out w (n % 256) l), getD-set-same out w (n % 256) 0 l, drop-set-lt (suc w) out w (n % 256) (omega arith))
+    (sym (append-assoc (toBytes w (n / 256)) (n % 256 ∷ []) (drop (suc w) out)))
 
 -- ---- a run after its count
 pub prefix-holds : (p : Prefix) {n : ℕ} → n ≤ prefixMost p → n < 256 ^ prefixLen p
@@ -73,11 +67,6 @@ pub length-counted : (k : ℕ) (x : List ℕ) → length (withCount k x) ≡ k +
 unfolding withCount
 length-counted k x = simp (length-append, length-toBytes)
 
--- the bytes as they are written
-pub counted-is : (k : ℕ) (x : List ℕ) → length x < 256 ^ k → lowBytes k (length x) ++ x ≡ withCount k x
-unfolding withCount
-counted-is k x h = rw (low-all k (length x) h)
-
 -- ---- sizes after their width
 pub length-sizes : (k : ℕ) (xs : List ℕ) → length (sizesOut k xs) ≡ k + length xs * width xs
 unfolding sizesOut
@@ -95,11 +84,10 @@ length-one k {x = x} s = omega (arith, length-sizes k (x ∷ []), smallest-is s)
 pub length-two : (k : ℕ) {w a b : ℕ} → Smallest (a ∷ b ∷ []) w → length (sizesOut k (a ∷ b ∷ [])) ≡ k + w + w
 length-two k {a = a} {b} s = omega (arith, length-sizes k (a ∷ b ∷ []), smallest-is s)
 
-module _ (k : ℕ) {w : ℕ} (small : w < 256 ^ k) where
-  pub one-size : {x : ℕ} → Smallest (x ∷ []) w → lowBytes k w ++ lowBytes w x ≡ sizesOut k (x ∷ [])
-  unfolding sizesOut sizesAt laid
-  one-size {x} s = rw (← smallest-is s, append-nil, low-all k w small, low-all w x (s .holds .fit .0))
+pub one-size : (k : ℕ) {w x : ℕ} → Smallest (x ∷ []) w → toBytes k w ++ toBytes w x ≡ sizesOut k (x ∷ [])
+unfolding sizesOut sizesAt laid
+one-size k s = rw (← smallest-is s, append-nil)
 
-  pub two-sizes : {a b : ℕ} → Smallest (a ∷ b ∷ []) w → (lowBytes k w ++ lowBytes w a) ++ lowBytes w b ≡ sizesOut k (a ∷ b ∷ [])
-  unfolding sizesOut sizesAt laid
-  two-sizes {a} {b} s = rw (← smallest-is s, append-nil, append-assoc, low-all k w small, low-all w a (s .holds .fit .0), low-all w b (s .holds .fit .1 .0))
+pub two-sizes : (k : ℕ) {w a b : ℕ} → Smallest (a ∷ b ∷ []) w → (toBytes k w ++ toBytes w a) ++ toBytes w b ≡ sizesOut k (a ∷ b ∷ [])
+unfolding sizesOut sizesAt laid
+two-sizes k s = rw (← smallest-is s, append-nil, append-assoc)
