@@ -4,7 +4,7 @@ use mathlib.Core.Path.{_≡_, sym, ap, _∙_}
 use Prim.Native.Nat.{ℕ}
 use mathlib.Core.List.{List}
 use lib.ListN.{drop}
-use Rattle.paper.specs.Answer.{Answer, refused, Read, Reader}
+use Rattle.paper.specs.Answer.{Answer, refused, Reader}
 use Rattle.wire.specs.Refusals.{row}
 use Rattle.wire.specs.Reading.{Seen, stopped, said, Right, refusalIn}
 use Rattle.wire.specs.declared.refusal.Refusal.{Refusal}

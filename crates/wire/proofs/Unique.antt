@@ -14,12 +14,11 @@ use Rattle.paper.specs.Answer.{Answer, accepted, refused, Read, _leaving_, Read
 use Rattle.paper.specs.Field.{firstSize, secondSize}
 use Rattle.paper.proofs.Sizes.{smallest-once}
 use Rattle.wire.specs.Reading.{Seen, found, stopped, said, placed, Right}
-use Rattle.wire.specs.Number.{seenByte, seenTwo, seenEight}
+use Rattle.wire.specs.Number.{seenByte, seenEight}
 use Rattle.wire.specs.Group.{seenSize, seenTwoSizes}
 use Rattle.wire.specs.Place.{seenPlace, bytesAt}
 use Rattle.wire.specs.Prefix.{prefixLen}
 use Rattle.wire.specs.declared.number.ByteAnswer.{ByteAnswer}
-use Rattle.wire.specs.declared.number.TwoAnswer.{TwoAnswer}
 use Rattle.wire.specs.declared.number.EightAnswer.{EightAnswer}
 use Rattle.wire.specs.declared.size.Size.{Size}
 use Rattle.wire.specs.declared.group.SizeAnswer.{SizeAnswer}
@@ -44,8 +43,6 @@ use Rattle.wire.proofs.room.left.Kinds as left-kinds
 use Rattle.wire.proofs.room.left.Reads as left
 use Rattle.wire.proofs.number.byte_at.Kinds as byte-at-kinds
 use Rattle.wire.proofs.number.byte_at.Reads as byte-at
-use Rattle.wire.proofs.number.two_at.Kinds as two-at-kinds
-use Rattle.wire.proofs.number.two_at.Reads as two-at
 use Rattle.wire.proofs.number.eight_at.Kinds as eight-at-kinds
 use Rattle.wire.proofs.number.eight_at.Reads as eight-at
 use Rattle.wire.proofs.group.read_be_uint.Kinds as read-be-uint-kinds
@@ -66,8 +63,6 @@ use Rattle.wire.proofs.refusal.Refusal.second.Kinds as second-kinds
 use Rattle.wire.proofs.refusal.Refusal.second.Reads as second
 use Rattle.wire.proofs.number.ByteAnswer.refusal.Kinds as byte-refusal-kinds
 use Rattle.wire.proofs.number.ByteAnswer.refusal.Reads as byte-refusal
-use Rattle.wire.proofs.number.TwoAnswer.refusal.Kinds as two-refusal-kinds
-use Rattle.wire.proofs.number.TwoAnswer.refusal.Reads as two-refusal
 use Rattle.wire.proofs.number.EightAnswer.refusal.Kinds as eight-refusal-kinds
 use Rattle.wire.proofs.number.EightAnswer.refusal.Reads as eight-refusal
 use Rattle.wire.proofs.group.SizeAnswer.refusal.Kinds as size-refusal-kinds
@@ -124,14 +119,6 @@ byte-again : (r : ByteAnswer) → byteOf (seenByte r) ≡ r
 byte-again (ByteAnswer.Accepted n next) = refl
 byte-again (ByteAnswer.Refused e) = refl
 
-abbrev twoOf : Seen ℕ → TwoAnswer
-twoOf (found n next) = TwoAnswer.Accepted n next
-twoOf (stopped e) = TwoAnswer.Refused e
-
-two-again : (r : TwoAnswer) → twoOf (seenTwo r) ≡ r
-two-again (TwoAnswer.Accepted n next) = refl
-two-again (TwoAnswer.Refused e) = refl
-
 abbrev eightOf : Seen ℕ → EightAnswer
 eightOf (found n next) = EightAnswer.Accepted n next
 eightOf (stopped e) = EightAnswer.Refused e
@@ -143,10 +130,6 @@ eight-again (EightAnswer.Refused e) = refl
 -- the byte at a position, or the refusal
 pub byte-at-determined : Determined 1 byte-at-kinds.ps byte-at-kinds.r byte-at.Post
 byte-at-determined κs a x y = once (λ n. n) (λ n next h. (refl, h .1)) seenByte byteOf byte-again
-
--- the number of two bytes
-pub two-at-determined : Determined 1 two-at-kinds.ps two-at-kinds.r two-at.Post
-two-at-determined κs a x y = once (λ n. n) (λ n next h. (refl, h .1)) seenTwo twoOf two-again
 
 -- the number of eight bytes
 pub eight-at-determined : Determined 1 eight-at-kinds.ps eight-at-kinds.r eight-at.Post
@@ -232,9 +215,6 @@ refusal-second-determined κs a x y r₁ r₂ p q = p ∙ sym q
 -- the refusal in each answer
 pub byte-refusal-determined : Determined 0 byte-refusal-kinds.ps byte-refusal-kinds.r byte-refusal.Post
 byte-refusal-determined κs a x y r₁ r₂ p q = p ∙ sym q
-
-pub two-refusal-determined : Determined 0 two-refusal-kinds.ps two-refusal-kinds.r two-refusal.Post
-two-refusal-determined κs a x y r₁ r₂ p q = p ∙ sym q
 
 pub eight-refusal-determined : Determined 0 eight-refusal-kinds.ps eight-refusal-kinds.r eight-refusal.Post
 eight-refusal-determined κs a x y r₁ r₂ p q = p ∙ sym q

@@ -1,20 +1,15 @@
--- Fields of one, two and eight bytes.
+-- Fields of one byte and of eight.
 use Prim.Native.Nat.{ℕ}
 use mathlib.Core.List.{List}
 use Rattle.paper.specs.Answer.{Reader}
 use Rattle.paper.specs.Field.{byte, number}
 use Rattle.wire.specs.Reading.{Seen, found, stopped, Right, Onwards}
 use Rattle.wire.specs.declared.number.ByteAnswer.{ByteAnswer}
-use Rattle.wire.specs.declared.number.TwoAnswer.{TwoAnswer}
 use Rattle.wire.specs.declared.number.EightAnswer.{EightAnswer}
 
 abbrev pub seenByte : ByteAnswer → Seen ℕ
 seenByte (ByteAnswer.Accepted b next) = found b next
 seenByte (ByteAnswer.Refused e) = stopped e
-
-abbrev pub seenTwo : TwoAnswer → Seen ℕ
-seenTwo (TwoAnswer.Accepted n next) = found n next
-seenTwo (TwoAnswer.Refused e) = stopped e
 
 abbrev pub seenEight : EightAnswer → Seen ℕ
 seenEight (EightAnswer.Accepted n next) = found n next
@@ -26,9 +21,6 @@ NumberRight field k s at r = Right ℕ ℕ (λ (n : ℕ). n) field (λ (n next :
 
 abbrev pub ByteRight : List ℕ → ℕ → ByteAnswer → Type 0
 ByteRight s at r = NumberRight byte 1 s at (seenByte r)
-
-abbrev pub TwoRight : List ℕ → ℕ → TwoAnswer → Type 0
-TwoRight s at r = NumberRight (number 2) 2 s at (seenTwo r)
 
 abbrev pub EightRight : List ℕ → ℕ → EightAnswer → Type 0
 EightRight s at r = NumberRight (number 8) 8 s at (seenEight r)

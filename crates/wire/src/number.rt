@@ -1,4 +1,4 @@
-// Numbers in one, two and eight bytes, high byte first.
+// Numbers in bytes, high byte first.
 use crate::refusal::Refusal;
 use crate::room::left;
 use crate::room::wide;
@@ -10,7 +10,7 @@ ghost use lib.ListN.{length, take, drop};
 ghost use Rattle.paper.specs.Bytes.{ofBytes};
 ghost use Rattle.wire.specs.Size.{value};
 ghost use Rattle.wire.specs.Reading.{refusalIn};
-ghost use Rattle.wire.specs.Number.{seenByte, ByteRight, seenTwo, TwoRight, seenEight, EightRight};
+ghost use Rattle.wire.specs.Number.{seenByte, ByteRight, seenEight, EightRight};
 
 // The byte and where the next field begins, or the refusal.
 pub enum ByteAnswer {
@@ -64,35 +64,6 @@ pub(crate) fn pair(s: &[u8], at: usize) -> usize
     let high = wide(s[at]);
     let low = wide(s[at + 1]);
     high * 256 + low
-}
-
-pub enum TwoAnswer {
-    Accepted(u16, usize),
-    Refused(Refusal),
-}
-
-pub fn two_at(s: &[u8], at: usize) -> TwoAnswer
-    ensures { λ r. ⌜ TwoRight (now (s .entry)) at r ⌝ }
-{
-    let room = left(s, at);
-    if room < 2 {
-        return TwoAnswer::Refused(Refusal::TooShort {
-            needed: 2,
-            available: room,
-        });
-    }
-    TwoAnswer::Accepted(pair(s, at) as u16, at + 2)
-}
-
-impl TwoAnswer {
-    pub fn refusal(self) -> Refusal
-        ensures { λ r. ⌜ r ≡ refusalIn (seenTwo self) ⌝ }
-    {
-        match self {
-            TwoAnswer::Refused(e) => e,
-            TwoAnswer::Accepted(_, _) => Refusal::WrongFormat,
-        }
-    }
 }
 
 pub enum EightAnswer {

@@ -1,6 +1,5 @@
 -- `wire::number::pair` meets its contract: the high byte 256 times, and the low byte.
 -- Assumes nothing.
-use mathlib.Core.Path.{_∙_}
 use native.Mathlib.Omega.{arith}
 use Rattle.paper.proofs.Places.{of-two}
 use borrow.Author.Needs.{needs}
