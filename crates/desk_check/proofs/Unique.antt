@@ -8,8 +8,6 @@ use Rattle.desk_check.specs.Desk.{deskSaid}
 use Rattle.desk_check.specs.declared.DeskAnswer.{DeskAnswer}
 use Rattle.desk_check.proofs.desk_check.Kinds as desk-check-kinds
 use Rattle.desk_check.proofs.desk_check.Reads as desk-check
-use Rattle.desk_check.proofs.DeskAnswer.refusal.Kinds as refusal-kinds
-use Rattle.desk_check.proofs.DeskAnswer.refusal.Reads as refusal
 
 -- the answer that the paper's stands for
 abbrev deskBack : Answer (Unit {0}) → DeskAnswer
@@ -22,6 +20,3 @@ desk-back (DeskAnswer.Refused e) = ap DeskAnswer.Refused (refusal-back e)
 
 pub desk-check-determined : Determined 1 desk-check-kinds.ps desk-check-kinds.r desk-check.Post
 desk-check-determined κs a x y r₁ r₂ p q = sym (desk-back r₁) ∙ ap deskBack (p ∙ sym q) ∙ desk-back r₂
-
-pub desk-refusal-determined : Determined 0 refusal-kinds.ps refusal-kinds.r refusal.Post
-desk-refusal-determined κs a x y r₁ r₂ p q = p ∙ sym q

@@ -7,7 +7,6 @@ use Rattle.paper.specs.Answer.{Answer, accepted, refused}
 use Rattle.paper.specs.Request.{afterName}
 use Rattle.paper.specs.Desk.{passes}
 use Rattle.wire.specs.Refusals.{row}
-use Rattle.wire.specs.declared.refusal.Refusal.{Refusal}
 use Rattle.file_operation.specs.Mode.{kindOf}
 use Rattle.request_file_transfer.specs.Reading.{meant}
 use Rattle.request_file_transfer.specs.declared.read.RequestFileTransferRequest.{RequestFileTransferRequest}
@@ -20,7 +19,3 @@ PassesRight q r = (s : List ℕ) → r ≡ passes (afterName (kindOf (q .kind)))
 abbrev pub deskSaid : DeskAnswer → Answer (Unit {0})
 deskSaid DeskAnswer.Passed = accepted tt
 deskSaid (DeskAnswer.Refused e) = refused (row e)
-
-abbrev pub deskRefusal : DeskAnswer → Refusal
-deskRefusal DeskAnswer.Passed = Refusal.WrongFormat
-deskRefusal (DeskAnswer.Refused e) = e

@@ -12,22 +12,11 @@ ghost use mathlib.Core.Path.{_≡_};
 ghost use lib.Dec.{leb};
 ghost use Rattle.paper.specs.Desk.{deskCheck};
 ghost use Rattle.wire.specs.Size.{value};
-ghost use Rattle.desk_check.specs.Desk.{PassesRight, deskSaid, deskRefusal};
+ghost use Rattle.desk_check.specs.Desk.{PassesRight, deskSaid};
 
 pub enum DeskAnswer {
     Passed,
     Refused(Refusal),
-}
-
-impl DeskAnswer {
-    pub fn refusal(self) -> Refusal
-        ensures { λ r. ⌜ r ≡ deskRefusal self ⌝ }
-    {
-        match self {
-            DeskAnswer::Refused(e) => e,
-            DeskAnswer::Passed => Refusal::WrongFormat,
-        }
-    }
 }
 
 // Whether the first size is at most the second, by their exact values.

@@ -26,8 +26,6 @@ use Rattle.file_operation.proofs.payload.DataFormatIdentifier.from_byte
 use Rattle.file_operation.proofs.payload.DataFormatIdentifier.from_byte.Reads as format-from-byte
 use Rattle.file_operation.proofs.payload.DataFormatIdentifier.value.Kinds as format-value-kinds
 use Rattle.file_operation.proofs.payload.DataFormatIdentifier.value.Reads as format-value
-use Rattle.file_operation.proofs.rewrite.RewriteAnswer.refusal.Kinds as rewrite-refusal-kinds
-use Rattle.file_operation.proofs.rewrite.RewriteAnswer.refusal.Reads as rewrite-refusal
 use Rattle.file_operation.proofs.rewrite.beside_tail.Kinds as beside-tail-kinds
 use Rattle.file_operation.proofs.rewrite.beside_tail.Reads as beside-tail
 
@@ -117,10 +115,6 @@ pub file-sizes-back : (x : FileSizePayload) → x .«file_size_uncompressed» .l
 file-sizes-back x h k = ap₂ fileSizesOf (size-back (x .«file_size_uncompressed») h) (size-back (x .«file_size_compressed») k)
 
 -- ---- rewriting
--- the refusal in an answer
-pub rewrite-refusal-determined : Determined 0 rewrite-refusal-kinds.ps rewrite-refusal-kinds.r rewrite-refusal.Post
-rewrite-refusal-determined κs a x y r₁ r₂ p q = p ∙ sym q
-
 -- the writer's answer with the tail beside it
 pub beside-tail-determined : Determined 0 beside-tail-kinds.ps beside-tail-kinds.r beside-tail.Post
 beside-tail-determined κs a x y r₁ r₂ p q = p ∙ sym q

@@ -6,7 +6,6 @@ use lib.ListN.{length, drop}
 use Rattle.paper.specs.Answer.{Answer, accepted, refused, Read, _leaving_, Reader}
 use Rattle.paper.specs.Rewriting.{rewrittenInto}
 use Rattle.wire.specs.Refusals.{row}
-use Rattle.wire.specs.declared.refusal.Refusal.{Refusal}
 use Rattle.wire.specs.declared.write.WriteAnswer.{WriteAnswer}
 use Rattle.file_operation.specs.declared.rewrite.RewriteAnswer.{RewriteAnswer}
 
@@ -25,10 +24,6 @@ pub record Rewrote (rewrite : Reader (List ℕ)) (s old : List ℕ) (r : Rewrite
   pub answer : retold s r ≡ rewrittenInto (rewrite s) old .answer
   pub place : tailWithin s r
   pub contents : new ≡ rewrittenInto (rewrite s) old .contents
-
-abbrev pub rewriteRefusal : RewriteAnswer → Refusal
-rewriteRefusal (RewriteAnswer.Accepted written tail) = Refusal.WrongFormat
-rewriteRefusal (RewriteAnswer.Refused e) = e
 
 -- a writer's answer with the tail beside it
 abbrev pub besideTail : WriteAnswer → ℕ → RewriteAnswer

@@ -19,6 +19,7 @@ pub enum ModeAnswer {
 }
 
 impl ModeAnswer {
+    // The refusal with which a caller leaves; a kind that was accepted has none, and WrongFormat stands in.
     pub fn refusal(self) -> Refusal
         ensures { λ r. ⌜ r ≡ modeRefusal self ⌝ }
     {

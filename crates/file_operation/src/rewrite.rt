@@ -2,26 +2,12 @@
 use wire::refusal::Refusal;
 use wire::write::WriteAnswer;
 ghost use mathlib.Core.Path.{_≡_};
-ghost use Rattle.file_operation.specs.Rewriting.{rewriteRefusal, besideTail};
+ghost use Rattle.file_operation.specs.Rewriting.{besideTail};
 
 // How many bytes were written and where in the message that was read its tail begins, or the refusal.
 pub enum RewriteAnswer {
     Accepted { written: usize, tail: usize },
     Refused(Refusal),
-}
-
-impl RewriteAnswer {
-    pub fn refusal(self) -> Refusal
-        ensures { λ r. ⌜ r ≡ rewriteRefusal self ⌝ }
-    {
-        match self {
-            RewriteAnswer::Refused(e) => e,
-            RewriteAnswer::Accepted {
-                written: _,
-                tail: _,
-            } => Refusal::WrongFormat,
-        }
-    }
 }
 
 // The answer of the writer, with the tail beside it.

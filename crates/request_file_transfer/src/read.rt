@@ -48,6 +48,7 @@ pub enum RequestAnswer {
 }
 
 impl RequestAnswer {
+    // The refusal with which a caller leaves; a request that was accepted has none, and WrongFormat stands in.
     pub fn refusal(self) -> Refusal
         ensures { λ r. ⌜ r ≡ refusalIn (seenRequest self) ⌝ }
     {

@@ -32,8 +32,6 @@ use Rattle.request_file_transfer_response.proofs.layout.after_mode.Kind
 use Rattle.request_file_transfer_response.proofs.layout.after_mode.Reads as after-mode
 use Rattle.request_file_transfer_response.proofs.read.RequestFileTransferResponse.dir_size.Kinds as dir-size-kinds
 use Rattle.request_file_transfer_response.proofs.read.RequestFileTransferResponse.dir_size.Reads as dir-size
-use Rattle.request_file_transfer_response.proofs.read.ResponseAnswer.refusal.Kinds as refusal-kinds
-use Rattle.request_file_transfer_response.proofs.read.ResponseAnswer.refusal.Reads as refusal
 use Rattle.request_file_transfer_response.proofs.read.read_response.Kinds as read-response-kinds
 use Rattle.request_file_transfer_response.proofs.read.read_response.Reads as read-response
 use Rattle.request_file_transfer_response.proofs.sent_data.SentDataPayload.fits.Kinds as fits-kinds
@@ -121,10 +119,6 @@ dirSizeOf z = record { «dir_info_length» = z }
 -- the size of the directory information
 pub dir-size-determined : Determined 0 dir-size-kinds.ps dir-size-kinds.r dir-size.Post
 dir-size-determined κs a x y r₁ r₂ p q = ap dirSizeOf (p ∙ sym q)
-
--- the refusal in an answer
-pub refusal-determined : Determined 0 refusal-kinds.ps refusal-kinds.r refusal.Post
-refusal-determined κs a x y r₁ r₂ p q = p ∙ sym q
 
 -- ---- the block length record
 -- whether one byte can count a block length

@@ -60,7 +60,7 @@ pub enum ResponseAnswer {
 }
 
 impl ResponseAnswer {
-    pub fn refusal(self) -> Refusal
+    pub(crate) fn refusal(self) -> Refusal
         ensures { λ r. ⌜ r ≡ refusalIn (seenResponse self) ⌝ }
     {
         match self {

@@ -35,10 +35,6 @@ use Rattle.wire.proofs.size.width_of.Kinds as width-of-kinds
 use Rattle.wire.proofs.size.width_of.Reads as width-of
 use Rattle.wire.proofs.size.width_of_both.Kinds as width-of-both-kinds
 use Rattle.wire.proofs.size.width_of_both.Reads as width-of-both
-use Rattle.wire.proofs.prefix.Prefix.len.Kinds as len-kinds
-use Rattle.wire.proofs.prefix.Prefix.len.Reads as len
-use Rattle.wire.proofs.prefix.Prefix.most.Kinds as most-kinds
-use Rattle.wire.proofs.prefix.Prefix.most.Reads as most
 use Rattle.wire.proofs.room.left.Kinds as left-kinds
 use Rattle.wire.proofs.room.left.Reads as left
 use Rattle.wire.proofs.number.byte_at.Kinds as byte-at-kinds
@@ -227,13 +223,6 @@ two-sizes-refusal-determined κs a x y r₁ r₂ p q = p ∙ sym q
 
 pub place-refusal-determined : Determined 0 place-refusal-kinds.ps place-refusal-kinds.r place-refusal.Post
 place-refusal-determined κs a x y r₁ r₂ p q = p ∙ sym q
-
--- ---- counts and widths: how many bytes they have, and the largest number that they hold
-pub prefix-len-determined : Determined 0 len-kinds.ps len-kinds.r len.Post
-prefix-len-determined κs a x y r₁ r₂ p q = p .0 ∙ sym (q .0)
-
-pub prefix-most-determined : Determined 0 most-kinds.ps most-kinds.r most.Post
-prefix-most-determined κs a x y r₁ r₂ p q = p .0 ∙ sym (q .0)
 
 -- ---- orders and widths
 pub compare-determined : Determined 0 compare-kinds.ps compare-kinds.r compare.Post

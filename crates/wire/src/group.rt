@@ -21,6 +21,7 @@ pub enum SizeAnswer {
 }
 
 impl SizeAnswer {
+    // The refusal with which a caller leaves; a size that was accepted has none, and WrongFormat stands in.
     pub fn refusal(self) -> Refusal
         ensures { λ r. ⌜ r ≡ refusalIn (seenSize self) ⌝ }
     {
@@ -133,6 +134,7 @@ pub enum TwoSizesAnswer {
 }
 
 impl TwoSizesAnswer {
+    // The refusal with which a caller leaves; sizes that were accepted have none, and WrongFormat stands in.
     pub fn refusal(self) -> Refusal
         ensures { λ r. ⌜ r ≡ refusalIn (seenTwoSizes self) ⌝ }
     {

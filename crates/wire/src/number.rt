@@ -18,6 +18,18 @@ pub enum ByteAnswer {
     Refused(Refusal),
 }
 
+impl ByteAnswer {
+    // The refusal with which a caller leaves; a byte that was accepted has none, and WrongFormat stands in.
+    pub fn refusal(self) -> Refusal
+        ensures { λ r. ⌜ r ≡ refusalIn (seenByte self) ⌝ }
+    {
+        match self {
+            ByteAnswer::Refused(e) => e,
+            ByteAnswer::Accepted(_, _) => Refusal::WrongFormat,
+        }
+    }
+}
+
 pub fn byte_at(s: &[u8], at: usize) -> ByteAnswer
     ensures { λ r. ⌜ ByteRight (now (s .entry)) at r ⌝ }
 {
@@ -28,18 +40,6 @@ pub fn byte_at(s: &[u8], at: usize) -> ByteAnswer
         });
     }
     ByteAnswer::Accepted(s[at], at + 1)
-}
-
-impl ByteAnswer {
-    // The refusal; of a byte that was accepted there is none, and WrongFormat stands in.
-    pub fn refusal(self) -> Refusal
-        ensures { λ r. ⌜ r ≡ refusalIn (seenByte self) ⌝ }
-    {
-        match self {
-            ByteAnswer::Refused(e) => e,
-            ByteAnswer::Accepted(_, _) => Refusal::WrongFormat,
-        }
-    }
 }
 
 // The number in the `width` bytes of `s` from `at` on, which are there.
@@ -71,6 +71,18 @@ pub enum EightAnswer {
     Refused(Refusal),
 }
 
+impl EightAnswer {
+    // The refusal with which a caller leaves; a number that was accepted has none, and WrongFormat stands in.
+    pub fn refusal(self) -> Refusal
+        ensures { λ r. ⌜ r ≡ refusalIn (seenEight self) ⌝ }
+    {
+        match self {
+            EightAnswer::Refused(e) => e,
+            EightAnswer::Accepted(_, _) => Refusal::WrongFormat,
+        }
+    }
+}
+
 pub fn eight_at(s: &[u8], at: usize) -> EightAnswer
     ensures { λ r. ⌜ EightRight (now (s .entry)) at r ⌝ }
 {
@@ -83,15 +95,4 @@ pub fn eight_at(s: &[u8], at: usize) -> EightAnswer
     }
     let x = gather(s, at, 8);
     EightAnswer::Accepted(x.low, at + 8)
-}
-
-impl EightAnswer {
-    pub fn refusal(self) -> Refusal
-        ensures { λ r. ⌜ r ≡ refusalIn (seenEight self) ⌝ }
-    {
-        match self {
-            EightAnswer::Refused(e) => e,
-            EightAnswer::Accepted(_, _) => Refusal::WrongFormat,
-        }
-    }
 }

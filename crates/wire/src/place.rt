@@ -21,6 +21,7 @@ pub enum PlaceAnswer {
 }
 
 impl PlaceAnswer {
+    // The refusal with which a caller leaves; a place that was accepted has none, and WrongFormat stands in.
     pub fn refusal(self) -> Refusal
         ensures { λ r. ⌜ r ≡ refusalIn (seenPlace self) ⌝ }
     {

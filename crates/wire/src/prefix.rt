@@ -10,7 +10,7 @@ pub enum Prefix {
 
 impl Prefix {
     // How many bytes it has.
-    pub fn len(self) -> usize
+    pub(crate) fn len(self) -> usize
         ensures { λ r. ⌜ (r ≡ prefixLen self) × (r ≤ 2) ⌝ }
     {
         match self {
@@ -20,7 +20,7 @@ impl Prefix {
     }
 
     // The largest number that it holds.
-    pub fn most(self) -> usize
+    pub(crate) fn most(self) -> usize
         ensures { λ r. ⌜ (r ≡ prefixMost self) × (r ≤ 65535) ⌝ }
     {
         match self {
