@@ -1,9 +1,9 @@
 // Trouble-code fields: the code and its number, status and severity masks, the names of formats and groups, the stored-data record number.
 // A field is read at a place of the message and written at the start of the room that is lent for it.
+use wire::available::available_at;
 use wire::number::ByteAnswer;
 use wire::number::byte_at;
 use wire::refusal::Refusal;
-use wire::room::left;
 use wire::write::WriteAnswer;
 use wire::write::put_byte;
 ghost use mathlib.Core.Path.{_≡_};
@@ -140,7 +140,7 @@ impl DtcRecord {
     pub fn decode(s: &[u8], at: usize) -> DtcRecordRead
         ensures { λ r. ⌜ RecordRight (now (s .entry)) at r ⌝ }
     {
-        let available = left(s, at);
+        let available = available_at(s, at);
         if available < DtcRecord::WIRE_SIZE {
             return DtcRecordRead::Refused(Refusal::TooShort {
                 needed: DtcRecord::WIRE_SIZE,

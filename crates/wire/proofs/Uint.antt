@@ -11,10 +11,10 @@ use Rattle.paper.proofs.Places.{on, off, pass, fail, narrow, wide, good, part-s
 use Rattle.wire.specs.Group.{uint}
 
 module _ (s : List ℕ) (at w : ℕ) where
-  -- fewer than w bytes are left
-  pub uint-short : (room : ℕ) → room ≡ length s - at → room < w → refused (tooShort w room) ≡ uint w (drop at s)
+  -- fewer than w bytes are available
+  pub uint-short : (available : ℕ) → available ≡ length s - at → available < w → refused (tooShort w available) ≡ uint w (drop at s)
   unfolding uint
-  uint-short room e h = off (part w) _ (drop at s) (part-short s at w room e h)
+  uint-short available e h = off (part w) _ (drop at s) (part-short s at w available e h)
 
   module _ (there : w ≤ length s - at) where
     -- the width is below 1

@@ -35,8 +35,8 @@ use Rattle.wire.proofs.size.width_of.Kinds as width-of-kinds
 use Rattle.wire.proofs.size.width_of.Reads as width-of
 use Rattle.wire.proofs.size.width_of_both.Kinds as width-of-both-kinds
 use Rattle.wire.proofs.size.width_of_both.Reads as width-of-both
-use Rattle.wire.proofs.room.left.Kinds as left-kinds
-use Rattle.wire.proofs.room.left.Reads as left
+use Rattle.wire.proofs.available.available_at.Kinds as available-at-kinds
+use Rattle.wire.proofs.available.available_at.Reads as available-at
 use Rattle.wire.proofs.number.byte_at.Kinds as byte-at-kinds
 use Rattle.wire.proofs.number.byte_at.Reads as byte-at
 use Rattle.wire.proofs.number.eight_at.Kinds as eight-at-kinds
@@ -103,9 +103,9 @@ module _ {A M : Type 0} {meaning : A → M} {Place : A → ℕ → Type 0} (back
     once seen unseen again r₁ r₂ p q = sym (again r₁) ∙ ap unseen (seen-is p ∙ sym (seen-is q)) ∙ again r₂
 
 -- ---- numbers
--- how many bytes are left
-pub left-determined : Determined 1 left-kinds.ps left-kinds.r left.Post
-left-determined κs a x y r₁ r₂ p q = p ∙ sym q
+-- how many bytes are available
+pub available-at-determined : Determined 1 available-at-kinds.ps available-at-kinds.r available-at.Post
+available-at-determined κs a x y r₁ r₂ p q = p ∙ sym q
 
 abbrev byteOf : Seen ℕ → ByteAnswer
 byteOf (found n next) = ByteAnswer.Accepted n next

@@ -15,12 +15,12 @@ abbrev pub seenEight : EightAnswer → Seen ℕ
 seenEight (EightAnswer.Accepted n next) = found n next
 seenEight (EightAnswer.Refused e) = stopped e
 
--- a number that is what it says, in so many bytes
-abbrev pub NumberRight : Reader ℕ → ℕ → List ℕ → ℕ → Seen ℕ → Type 0
-NumberRight field k s at r = Right ℕ ℕ (λ (n : ℕ). n) field (λ (n next : ℕ). Onwards s at k next) s at r
+-- a number that means itself, in k bytes
+abbrev pub PlainNumberRight : Reader ℕ → ℕ → List ℕ → ℕ → Seen ℕ → Type 0
+PlainNumberRight field k s at r = Right ℕ ℕ (λ (n : ℕ). n) field (λ (n next : ℕ). Onwards s at k next) s at r
 
 abbrev pub ByteRight : List ℕ → ℕ → ByteAnswer → Type 0
-ByteRight s at r = NumberRight byte 1 s at (seenByte r)
+ByteRight s at r = PlainNumberRight byte 1 s at (seenByte r)
 
 abbrev pub EightRight : List ℕ → ℕ → EightAnswer → Type 0
-EightRight s at r = NumberRight (number 8) 8 s at (seenEight r)
+EightRight s at r = PlainNumberRight (number 8) 8 s at (seenEight r)

@@ -1,10 +1,10 @@
 // Sizes in a message: of a width that is known, or in a group that says its width first.
+use crate::available::available_at;
 use crate::number::gather;
 use crate::number::pair;
+use crate::number::wide;
 use crate::prefix::Prefix;
 use crate::refusal::Refusal;
-use crate::room::left;
-use crate::room::wide;
 use crate::size::Size;
 ghost use mathlib.Core.Path.{_≡_};
 ghost use Prim.Native.Nat.{_+_, _≤_, _<_};
@@ -36,11 +36,11 @@ impl SizeAnswer {
 pub fn read_be_uint(s: &[u8], at: usize, width: usize) -> SizeAnswer
     ensures { λ r. ⌜ UintRight width (now (s .entry)) at r ⌝ }
 {
-    let room = left(s, at);
-    if room < width {
+    let available = available_at(s, at);
+    if available < width {
         return SizeAnswer::Refused(Refusal::TooShort {
             needed: width,
-            available: room,
+            available,
         });
     }
     if width < 1 {
@@ -85,21 +85,18 @@ fn width_at(prefix: Prefix, count: usize, s: &[u8], at: usize) -> WidthAnswer
     requires { ⌜ count ≤ 2 ⌝ }
     ensures { λ r. ⌜ WidthRight (prefixLen prefix) count (now (s .entry)) at r ⌝ }
 {
-    let room = left(s, at);
+    let available = available_at(s, at);
     let before = prefix.len();
-    if room < before {
+    if available < before {
         return WidthAnswer::Refused(Refusal::TooShort {
             needed: before,
-            available: room,
+            available,
         });
     }
     let w = head(prefix, s, at);
     let needed = before + count * w;
-    if room < needed {
-        return WidthAnswer::Refused(Refusal::TooShort {
-            needed,
-            available: room,
-        });
+    if available < needed {
+        return WidthAnswer::Refused(Refusal::TooShort { needed, available });
     }
     if w < 1 {
         return WidthAnswer::Refused(Refusal::BadWidth(w));

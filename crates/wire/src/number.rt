@@ -1,7 +1,6 @@
 // Numbers in bytes, high byte first.
+use crate::available::available_at;
 use crate::refusal::Refusal;
-use crate::room::left;
-use crate::room::wide;
 use crate::size::Size;
 use crate::size::shift_in;
 ghost use mathlib.Core.Path.{_≡_};
@@ -56,6 +55,13 @@ pub(crate) fn gather(s: &[u8], at: usize, width: usize) -> Size
     x
 }
 
+// A byte as a number of bytes.
+pub(crate) fn wide(b: u8) -> usize
+    ensures { λ r. ⌜ (r ≡ b) × (r < 256) ⌝ }
+{
+    b as usize
+}
+
 // The number in the two bytes of `s` from `at` on, which are there.
 pub(crate) fn pair(s: &[u8], at: usize) -> usize
     requires { ⌜ at + 2 ≤ length (now s) ⌝ }
@@ -86,11 +92,11 @@ impl EightAnswer {
 pub fn eight_at(s: &[u8], at: usize) -> EightAnswer
     ensures { λ r. ⌜ EightRight (now (s .entry)) at r ⌝ }
 {
-    let room = left(s, at);
-    if room < 8 {
+    let available = available_at(s, at);
+    if available < 8 {
         return EightAnswer::Refused(Refusal::TooShort {
             needed: 8,
-            available: room,
+            available,
         });
     }
     let x = gather(s, at, 8);

@@ -1,8 +1,8 @@
 // Parts of the message: a run of bytes after its count, handed back as a place, and the very part at a place.
+use crate::available::available_at;
 use crate::group::head;
 use crate::prefix::Prefix;
 use crate::refusal::Refusal;
-use crate::room::left;
 ghost use mathlib.Core.Path.{_≡_};
 ghost use Rattle.wire.specs.Prefix.{prefixLen};
 ghost use Rattle.wire.specs.Reading.{refusalIn};
@@ -36,21 +36,18 @@ impl PlaceAnswer {
 pub fn counted_at(prefix: Prefix, s: &[u8], at: usize) -> PlaceAnswer
     ensures { λ r. ⌜ CountedRight (prefixLen prefix) (now (s .entry)) at r ⌝ }
 {
-    let room = left(s, at);
+    let available = available_at(s, at);
     let before = prefix.len();
-    if room < before {
+    if available < before {
         return PlaceAnswer::Refused(Refusal::TooShort {
             needed: before,
-            available: room,
+            available,
         });
     }
     let len = head(prefix, s, at);
     let needed = before + len;
-    if room < needed {
-        return PlaceAnswer::Refused(Refusal::TooShort {
-            needed,
-            available: room,
-        });
+    if available < needed {
+        return PlaceAnswer::Refused(Refusal::TooShort { needed, available });
     }
     let start = at + before;
     PlaceAnswer::Accepted(Place { start, len }, start + len)

@@ -35,7 +35,6 @@ pub fn compare(a: Size, b: Size) -> Order
     Order::Equal
 }
 
-// The larger of two sizes.
 fn larger(a: Size, b: Size) -> Size
     ensures { λ r. ⌜ value r ≡ max (value a) (value b) ⌝ }
 {
@@ -97,7 +96,6 @@ pub(crate) fn shift_out(x: Size) -> Size
     }
 }
 
-// The low byte of a size.
 pub(crate) fn low_byte(x: Size) -> u8
     ensures { λ r. ⌜ r ≡ value x % 256 ⌝ }
 {

@@ -7,11 +7,11 @@ use borrow.Author.Needs.{needs}
 use Rattle.wire.proofs.group.read_be_uint.Statement.{statement}
 use Rattle.wire.proofs.group.read_be_uint.Tie as tie
 
-left-requires : tie.Need-left-requires
-left-requires c κs = search needs
+available-at-requires : tie.Need-available-at-requires
+available-at-requires c κs = search needs
 
 returns : tie.Need-returns
-returns c = let a = c .before .before .before .args in record { paper = uint-short (a .s .now) (a .at) _ _ (c .before .left .ensures) (search needs); place = tt }
+returns c = let a = c .before .before .before .args in record { paper = uint-short (a .s .now) (a .at) _ _ (c .before .available-at .ensures) (search needs); place = tt }
 
 returns-2 : tie.Need-returns-2
 returns-2 c = let a = c .before .before .before .before .args in record { paper = uint-narrow (a .s .now) (a .at) _ (omega arith) (search needs); place = tt }
@@ -36,4 +36,4 @@ returns-4 c =
 pub read-be-uint-spec : {M : Type 1} → statement M
 read-be-uint-spec =
     tie.close
-    (tie.spec left-requires returns returns-2 returns-3 gather-requires add-t10 returns-4)
+    (tie.spec available-at-requires returns returns-2 returns-3 gather-requires add-t10 returns-4)

@@ -8,8 +8,8 @@ use borrow.Author.Needs.{needs}
 use Rattle.wire.proofs.group.width_at.Statement.{statement}
 use Rattle.wire.proofs.group.width_at.Tie as tie
 
-left-requires : tie.Need-left-requires
-left-requires c κs = search needs
+available-at-requires : tie.Need-available-at-requires
+available-at-requires c κs = search needs
 
 len-requires : tie.Need-len-requires
 len-requires c κs = search needs
@@ -17,7 +17,7 @@ len-requires c κs = search needs
 returns : tie.Need-returns
 returns c =
     let a = c .before .before .before .before .args in
-    rw (c .before .len .ensures .0) (group-short (a .s .now) (a .at) _ (a .count) _ (c .before .before .left .ensures) (omega arith))
+    rw (c .before .len .ensures .0) (group-short (a .s .now) (a .at) _ (a .count) _ (c .before .before .available-at .ensures) (omega arith))
 
 head-requires : tie.Need-head-requires
 head-requires c κs = omega (arith, prefix-some (c .before .before .before .before .args .prefix))
@@ -36,7 +36,7 @@ returns-2 : tie.Need-returns-2
 returns-2 c =
     let a = c .before .before .before .before .before .before .args in
     rw (c .before .before .before .len .ensures .0)
-    (group-cut (a .s .now) (a .at) _ (a .count) _ (c .before .head .ensures .0) _ (c .before .before .before .before .left .ensures) (omega arith) (omega arith))
+    (group-cut (a .s .now) (a .at) _ (a .count) _ (c .before .head .ensures .0) _ (c .before .before .before .before .available-at .ensures) (omega arith) (omega arith))
 
 returns-3 : tie.Need-returns-3
 returns-3 c =
@@ -55,7 +55,7 @@ pub width-at-spec : {M : Type 1} → statement M
 width-at-spec =
     tie.close
     (tie.spec
-    left-requires
+    available-at-requires
     len-requires
     returns
     head-requires

@@ -7,11 +7,11 @@ use borrow.Author.Needs.{needs}
 use Rattle.wire.proofs.number.eight_at.Statement.{statement}
 use Rattle.wire.proofs.number.eight_at.Tie as tie
 
-left-requires : tie.Need-left-requires
-left-requires c κs = search needs
+available-at-requires : tie.Need-available-at-requires
+available-at-requires c κs = search needs
 
 returns : tie.Need-returns
-returns c = let a = c .before .before .before .args in record { paper = number-short (a .s .now) (a .at) 8 _ (c .before .left .ensures) (search needs); place = tt }
+returns c = let a = c .before .before .before .args in record { paper = number-short (a .s .now) (a .at) 8 _ (c .before .available-at .ensures) (search needs); place = tt }
 
 gather-requires : tie.Need-gather-requires
 gather-requires c κs = search needs
@@ -29,4 +29,4 @@ returns-2 c =
     }
 
 pub eight-at-spec : {M : Type 1} → statement M
-eight-at-spec = tie.close (tie.spec left-requires returns gather-requires add-t7 returns-2)
+eight-at-spec = tie.close (tie.spec available-at-requires returns gather-requires add-t7 returns-2)

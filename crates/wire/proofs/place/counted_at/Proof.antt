@@ -7,8 +7,8 @@ use borrow.Author.Needs.{needs}
 use Rattle.wire.proofs.place.counted_at.Statement.{statement}
 use Rattle.wire.proofs.place.counted_at.Tie as tie
 
-left-requires : tie.Need-left-requires
-left-requires c κs = search needs
+available-at-requires : tie.Need-available-at-requires
+available-at-requires c κs = search needs
 
 len-requires : tie.Need-len-requires
 len-requires c κs = search needs
@@ -16,7 +16,7 @@ len-requires c κs = search needs
 returns : tie.Need-returns
 returns c =
     let a = c .before .before .before .before .args in
-    record { paper = rw (c .before .len .ensures .0) (counted-short (a .s .now) (a .at) _ _ (c .before .before .left .ensures) (omega arith)); place = tt }
+    record { paper = rw (c .before .len .ensures .0) (counted-short (a .s .now) (a .at) _ _ (c .before .before .available-at .ensures) (omega arith)); place = tt }
 
 head-requires : tie.Need-head-requires
 head-requires c κs = omega (arith, prefix-some (c .before .before .before .before .args .prefix))
@@ -30,7 +30,7 @@ returns-2 c =
     record {
       paper =
           rw (c .before .before .before .len .ensures .0)
-          (counted-cut (a .s .now) (a .at) _ _ (c .before .head .ensures .0) _ (c .before .before .before .before .left .ensures) (omega arith) (omega arith));
+          (counted-cut (a .s .now) (a .at) _ _ (c .before .head .ensures .0) _ (c .before .before .before .before .available-at .ensures) (omega arith) (omega arith));
       place = tt;
     }
 
@@ -52,7 +52,7 @@ pub counted-at-spec : {M : Type 1} → statement M
 counted-at-spec =
     tie.close
     (tie.spec
-    left-requires
+    available-at-requires
     len-requires
     returns
     head-requires

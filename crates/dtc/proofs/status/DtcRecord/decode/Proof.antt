@@ -7,7 +7,7 @@ use Rattle.dtc.proofs.status.DtcRecord.decode.Statement.{statement}
 use Rattle.dtc.proofs.status.DtcRecord.decode.Tie as tie
 
 returns : tie.Need-returns
-returns c = let a = c .before .before .before .args in record { paper = record-short (a .s .now) (a .at) _ (c .before .left .ensures) (search needs); place = tt }
+returns c = let a = c .before .before .before .args in record { paper = record-short (a .s .now) (a .at) _ (c .before .available-at .ensures) (search needs); place = tt }
 
 returns-2 : tie.Need-returns-2
 returns-2 c = let a = c .before .before .before .before .before .before .args in record { paper = record-there (a .s .now) (a .at) (omega arith); place = search needs }
