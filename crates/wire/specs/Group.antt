@@ -44,8 +44,12 @@ abbrev pub widthRefusal : WidthAnswer → Refusal
 widthRefusal (WidthAnswer.Good w) = Refusal.WrongFormat
 widthRefusal (WidthAnswer.Refused e) = e
 
+-- the low half of the size is a half, and the next field begins within the message
+abbrev pub OneSizePlace : List ℕ → Size → ℕ → Type 0
+OneSizePlace s x next = (x .low < 2 ^ 64) × (next ≤ length s)
+
 abbrev pub OneSizeRight : ℕ → List ℕ → ℕ → SizeAnswer → Type 0
-OneSizeRight k s at r = Right Size (List ℕ) (λ (x : Size). value x ∷ []) (sizeGroup k 1) (λ (x : Size) (next : ℕ). (x .low < 2 ^ 64) × (next ≤ length s)) s at (seenSize r)
+OneSizeRight k s at r = Right Size (List ℕ) (λ (x : Size). value x ∷ []) (sizeGroup k 1) (OneSizePlace s) s at (seenSize r)
 
 abbrev pub seenTwoSizes : TwoSizesAnswer → Seen TwoSizes
 seenTwoSizes (TwoSizesAnswer.Accepted x next) = found x next
@@ -54,7 +58,9 @@ seenTwoSizes (TwoSizesAnswer.Refused e) = stopped e
 abbrev pub valuesOf : TwoSizes → List ℕ
 valuesOf x = value (x .uncompressed) ∷ value (x .compressed) ∷ []
 
+-- the low half of each size is a half, and the next field begins within the message
+abbrev pub TwoSizesPlace : List ℕ → TwoSizes → ℕ → Type 0
+TwoSizesPlace s x next = (x .uncompressed .low < 2 ^ 64) × (x .compressed .low < 2 ^ 64) × (next ≤ length s)
+
 abbrev pub TwoSizesRight : ℕ → List ℕ → ℕ → TwoSizesAnswer → Type 0
-TwoSizesRight k s at r =
-    Right TwoSizes (List ℕ) valuesOf (sizeGroup k 2)
-    (λ (x : TwoSizes) (next : ℕ). (x .uncompressed .low < 2 ^ 64) × (x .compressed .low < 2 ^ 64) × (next ≤ length s)) s at (seenTwoSizes r)
+TwoSizesRight k s at r = Right TwoSizes (List ℕ) valuesOf (sizeGroup k 2) (TwoSizesPlace s) s at (seenTwoSizes r)

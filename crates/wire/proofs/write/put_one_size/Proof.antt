@@ -29,9 +29,11 @@ returns-2 c =
     rw (← k .ensures .0)
     (writes _ (length-one (k .result) (w .ensures)) (search needs)
     (filled-as (one-size (k .result) (w .ensures))
-    (filled-more (k .result) (rw (head .before .before .size-from .ensures) at (filled refl (head .write-be-uint .ensures))) (filled refl (c .before .before .write-be-uint2 .ensures)) (length-toBytes (k .result) _))))
+    (filled-more (k .result) (rw (head .before .before .size-from .ensures) at (filled refl (head .write-be-uint .ensures)))
+    (filled refl (c .before .before .write-be-uint2 .ensures)) (length-toBytes (k .result) _))))
 
 pub put-one-size-spec : {M : Type 1} → statement M
 put-one-size-spec =
     tie.close
-    (tie.spec (λ c κs. search needs) (λ c κs. search needs) (λ c. search needs) returns (λ c κs. search needs) write-be-uint-requires (λ c. search needs) (λ c. search needs) (λ c. search needs) write-be-uint-requires-2 (λ c. search needs) returns-2)
+    (tie.spec (λ c κs. search needs) (λ c κs. search needs) (λ c. search needs) returns (λ c κs. search needs) write-be-uint-requires (λ c. search needs)
+    (λ c. search needs) (λ c. search needs) write-be-uint-requires-2 (λ c. search needs) returns-2)

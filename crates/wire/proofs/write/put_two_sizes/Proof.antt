@@ -32,7 +32,8 @@ returns-2 c =
     let head = first .before .before .before .before in
     let w = head .before .before .before .before .width-of-both in
     let k = head .before .before .before .before .before .len in
-    let one = filled-more (k .result) (rw (head .before .before .size-from .ensures) at (filled refl (head .write-be-uint .ensures))) (filled refl (first .write-be-uint2 .ensures)) (length-toBytes (k .result) _) in
+    let width = rw (head .before .before .size-from .ensures) at (filled refl (head .write-be-uint .ensures)) in
+    let one = filled-more (k .result) width (filled refl (first .write-be-uint2 .ensures)) (length-toBytes (k .result) _) in
     rw (← k .ensures .0)
     (writes _ (length-two (k .result) (w .ensures)) (search needs)
     (filled-as (two-sizes (k .result) (w .ensures))
@@ -41,4 +42,6 @@ returns-2 c =
 pub put-two-sizes-spec : {M : Type 1} → statement M
 put-two-sizes-spec =
     tie.close
-    (tie.spec (λ c κs. search needs) (λ c κs. search needs) (λ c. search needs) (λ c. search needs) returns (λ c κs. search needs) write-be-uint-requires (λ c. search needs) (λ c. search needs) (λ c. search needs) write-be-uint-requires-2 (λ c. search needs) (λ c. search needs) (λ c. search needs) write-be-uint-requires-3 (λ c. search needs) returns-2)
+    (tie.spec (λ c κs. search needs) (λ c κs. search needs) (λ c. search needs) (λ c. search needs) returns (λ c κs. search needs) write-be-uint-requires
+    (λ c. search needs) (λ c. search needs) (λ c. search needs) write-be-uint-requires-2 (λ c. search needs) (λ c. search needs)
+    (λ c. search needs) write-be-uint-requires-3 (λ c. search needs) returns-2)
