@@ -1,5 +1,6 @@
 pub mod Choice
 pub mod Answer
+pub mod Contract
 pub mod Bytes
 pub mod Utf8
 pub mod Sizes

@@ -1,13 +1,14 @@
 -- Text of which each byte fits after the three before it is UTF-8, but for a character that it breaks off. Assumes nothing.
 use Prim.Native.Nat.{ℕ, zero, suc, _+_, _-_, _≤_, _<_}
 use mathlib.Core.Path.{_≡_, sym, ap, subst, _∙_}
-use mathlib.Core.Bool.{Bool, true, false, _&&_, _||_, not, Bool·beq, or-true, and-eq-true-iff}
+use mathlib.Core.Bool.{Bool, true, false, _&&_, _||_, not, Bool·beq, and-false, or-true, and-eq-true-iff}
 use mathlib.Mathlib.Data.Bool.Basic.{or-eq-false-eq-eq-false-and-eq-false as neither}
-use mathlib.Core.Logic.{_⊎_, inl, inr, ⊎-elim}
+use mathlib.Core.Logic.{_↔_, _⊎_, inl, inr, ⊎-elim}
 use mathlib.Core.List.{List, [], _∷_, _++_, append-assoc, append-nil}
 use native.Mathlib.Omega.{arith}
 use native.Mathlib.Nat.{sub-right-comm}
-use borrow.Author.Tests.{ltb-false, leb-true, leb-false, eqb-false, not-true, le-leb, lt-leb, eq-eqb}
+use borrow.Author.Count.{below-more}
+use borrow.Author.Tests.{ltb-false, leb-true, leb-false, eqb-true, eqb-false, not-true, le-ltb, le-leb, lt-leb, eq-eqb, ne-eqb}
 use lib.Dec.{ltb, leb, eqb}
 use lib.ListN.{length, getD, take, drop, length-append, length-drop}
 use lib.Seq.{append-snoc, take-at, take-take, length-take-le}
@@ -16,7 +17,7 @@ use Rattle.utf8.specs.Valid.{Valid}
 use Rattle.utf8.specs.Ascii.{AsciiTo, AsciiStart}
 use Rattle.utf8.specs.Fit.{Fits, FitTo, AllFit, Fitting, FitStart, unfinishedOf}
 use Rattle.utf8.proofs.Valid.{part-at}
-use Rattle.utf8.proofs.Tests.{cut, and-other, same}
+use Rattle.utf8.proofs.Tests.{cut, and-other, not-both, same}
 
 -- ---- one byte: the tests of `fits_after`, and what they say
 abbrev pub goesOn : ℕ → ℕ → ℕ → Bool
@@ -40,7 +41,7 @@ tooLarge c d = eqb c 0xF4 && ltb 0x8F d
 abbrev pub wrong : ℕ → ℕ → Bool
 wrong c d = never d || overlong c d || surrogate c d || tooLarge c d
 
-pub fits : (a b c d : ℕ) → (Bool·beq (goesOn a b c) (inside d) && not (wrong c d)) ≡ true → Fits a b c d
+fits : (a b c d : ℕ) → (Bool·beq (goesOn a b c) (inside d) && not (wrong c d)) ≡ true → Fits a b c d
 fits a b c d e =
     let (g, w) = and-eq-true-iff (Bool·beq (goesOn a b c) (inside d)) (not (wrong c d)) .0 e in
     let (w3, l) = neither (never d || overlong c d || surrogate c d) (tooLarge c d) .0 (not-true (wrong c d) w) in
@@ -69,7 +70,53 @@ fits a b c d e =
         let f : 0x80 ≤ d → 0xBF < d = λ l. leb-false d 0xBF (and-other (leb 0x80 d) (leb d 0xBF) i (le-leb 0x80 d l)) in
         ⊎-elim inl (λ l. inr (omega (arith, f l, ltb-false 0xF4 d h, eqb-false d 0xC0 n0, eqb-false d 0xC1 n1))) (cut d 0x80)
 
+passes : (a b c d : ℕ) → Fits a b c d → (Bool·beq (goesOn a b c) (inside d) && not (wrong c d)) ≡ true
+passes a b c d f =
+    let (p, n) = placed in
+    simp (
+      p,
+      n,
+      not-both (eqb c 0xE0) (ltb d 0xA0) (λ e. le-ltb d 0xA0 (f .after-E0 (eqb-true c 0xE0 e))),
+      not-both (eqb c 0xF0) (ltb d 0x90) (λ e. le-ltb d 0x90 (f .after-F0 (eqb-true c 0xF0 e))),
+      not-both (eqb c 0xED) (ltb 0x9F d) (λ e. le-ltb 0x9F d (f .after-ED (eqb-true c 0xED e))),
+      not-both (eqb c 0xF4) (ltb 0x8F d) (λ e. le-ltb 0x8F d (f .after-F4 (eqb-true c 0xF4 e))),
+    )
+  where
+    Placed : Type 0
+    Placed = (Bool·beq (goesOn a b c) (inside d) ≡ true) × (never d ≡ false)
+
+    at-times : (d ≡ 0xC0 → ⊥) → (d ≡ 0xC1 → ⊥) → d ≤ 0xF4 → never d ≡ false
+    at-times x y z = simp (ne-eqb d 0xC0 x, ne-eqb d 0xC1 y, le-ltb 0xF4 d z)
+
+    in-one : goesOn a b c ≡ true → Tail d → Placed
+    in-one g t = (simp (g, le-leb 0x80 d (t .0), le-leb d 0xBF (t .1)), at-times (λ e. omega arith) (λ e. omega arith) (omega arith))
+
+    begins-one : goesOn a b c ≡ false → (d < 0x80) ⊎ In 0xC2 0xF4 d → Placed
+    begins-one g (inl l) = (simp (g, lt-leb 0x80 d l), at-times (λ e. omega arith) (λ e. omega arith) (omega arith))
+    begins-one g (inr h) = (simp (g, lt-leb d 0xBF (omega arith), and-false), at-times (λ e. omega arith) (λ e. omega arith) (h .1))
+
+    placed : Placed
+    placed =
+        ⊎-elim (λ x. ⊎-elim (λ y. ⊎-elim (λ z. begins-one (simp (lt-leb 0xF0 a x, lt-leb 0xE0 b y, lt-leb 0xC0 c z)) (f .starts x y z))
+        (λ z. in-one (simp (le-leb 0xC0 c z, or-true)) (f .in-two z))
+        (cut c 0xC0)) (λ y. in-one (simp (le-leb 0xE0 b y, or-true)) (f .in-three y))
+        (cut b 0xE0)) (λ x. in-one (simp (le-leb 0xF0 a x)) (f .in-four x))
+        (cut a 0xF0)
+
+-- they pass exactly where d can stand
+pub fits-iff : (a b c d : ℕ) → ((Bool·beq (goesOn a b c) (inside d) && not (wrong c d)) ≡ true) ↔ Fits a b c d
+fits-iff a b c d = (fits a b c d, passes a b c d)
+
 -- ---- many bytes
+-- one byte more
+pub fit-turn : (s : List ℕ) (i : ℕ) (fit next : Bool) → 3 ≤ i → (fit ≡ true) ↔ FitTo s i
+    → (next ≡ true) ↔ Fits (getD s (i - 3) 0) (getD s (i - 2) 0) (getD s (i - 1) 0) (getD s i 0) → ((fit && next) ≡ true) ↔ FitTo s (i + 1)
+fit-turn s i fit next t h k =
+    let and = and-eq-true-iff fit next in (
+      (λ e. below-more _ i (h .0 (and .0 e .0)) (λ _. k .0 (and .0 e .1))),
+      (λ f. and .1 (h .1 (λ j l. f j (omega arith)), k .1 (f i (omega arith) t))),
+    )
+
 -- ASCII fits after ASCII, and at the start
 ascii-fits : (a b c d : ℕ) → a < 0x80 → b < 0x80 → c < 0x80 → d < 0x80 → Fits a b c d
 ascii-fits a b c d x y z w = record {
@@ -105,11 +152,11 @@ in-part : (s : List ℕ) (a m : ℕ) → a + m ≤ length s → AllFit (take m (
     → Fits (getD s (i - 3) 0) (getD s (i - 2) 0) (getD s (i - 1) 0) (getD s i 0)
 in-part s a m l h i t j =
     let p : length (take m (drop a s)) ≡ m = length-take-le m (drop a s) (omega (arith, length-drop a s)) in
-    rw (sub-right-comm i a 3, sub-right-comm i a 2, sub-right-comm i a 1, same-place 3 (omega arith), same-place 2 (omega arith), same-place 1 (omega arith), part-at s a m i (omega arith) (omega arith))
+    rw (before 3 (omega arith), before 2 (omega arith), before 1 (omega arith), part-at s a m i (omega arith) (omega arith))
     at (h (i - a) (omega arith) (omega arith))
   where
-    same-place : (k : ℕ) → k ≤ 3 → getD (take m (drop a s)) (i - k - a) 0 ≡ getD s (i - k) 0
-    same-place k l = part-at s a m (i - k) (omega arith) (omega arith)
+    before : (k : ℕ) → k ≤ 3 → getD (take m (drop a s)) (i - a - k) 0 ≡ getD s (i - k) 0
+    before k l = rw sub-right-comm (part-at s a m (i - k) (omega arith) (omega arith))
 
 -- one block more, which the code lends as this part of s, with the three bytes before it
 pub more-fits : {s : List ℕ} {at : ℕ} (n : ℕ) → Fitting s at → n ≤ length s - at → AllFit (take (at + n - (at - 3)) (drop (at - 3) s)) → Fitting s (at + n)

@@ -19,7 +19,7 @@ nothing-left [] e = record { valid = empty []; stuck = λ _. char-none }
 nothing-left (a ∷ s) e = absurd (omega arith)
 
 pub run-step : {s : List ℕ} {n : ℕ} → 0 < length s → getD s 0 0 < 0x80 → AsciiRun s n → Step s n
-run-step l b h = record { valid = ascii-valid (h .start); stuck = λ z. absurd (omega (arith, h .some l b)) }
+run-step l b h = record { valid = ascii-valid (h .start); stuck = λ z. absurd (omega (arith, (rw z at (h .ends)) l)) }
 
 pub character-step : {s : List ℕ} {n : ℕ} → n ≡ charLength s → Step s n
 character-step {s} {n} e =

@@ -10,10 +10,14 @@ use native.Mathlib.Nat.{eq-zero-or-pos}
 pub cut : (a n : ℕ) → (a < n) ⊎ (n ≤ a)
 cut a n = ⊎-elim (λ z. inr (omega arith)) (λ p. inl (omega arith)) (eq-zero-or-pos (n - a))
 
--- two tests do not both pass, and the first does
+-- two tests do not both pass: where the first does, the second does not
 pub and-other : (p q : Bool) → (p && q) ≡ false → p ≡ true → q ≡ false
 and-other true q e f = e
 and-other false q e f = absurd (false≢true f)
+
+pub not-both : (p q : Bool) → (p ≡ true → q ≡ false) → (p && q) ≡ false
+not-both true q h = h refl
+not-both false q h = refl
 
 -- two tests have the same outcome
 pub same : (p q : Bool) → Bool·beq p q ≡ true → p ≡ q

@@ -15,7 +15,7 @@ pub record AsciiStart (s : List ℕ) (n : ℕ) : Type 0 where
   pub within : n ≤ length s
   pub ascii : AsciiTo s n
 
--- it does, and with some where its first byte is ASCII
+-- it does, and with no more
 pub record AsciiRun (s : List ℕ) (n : ℕ) : Type 0 where
   pub start : AsciiStart s n
-  pub some : 0 < length s → getD s 0 0 < 0x80 → 0 < n
+  pub ends : n < length s → 0x80 ≤ getD s n 0

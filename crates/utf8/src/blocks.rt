@@ -1,0 +1,160 @@
+// UTF-8 in blocks of 64 bytes: whether a byte can stand where it stands is decided by the three before it, so each is judged for itself,
+// with no branch and no early exit, and the compiler can judge many at once. Text of which each byte fits is UTF-8, but for a character that it
+// breaks off at its end.
+//
+// Of `61 E2 82 AC ED A0`, a letter, the euro sign and the beginning of a surrogate, `fits_after` answers for each byte, as if zeros stood before:
+//     00 00 00 61  true   nothing before it goes on, and 61 begins a character
+//     00 00 61 E2  true   so does E2
+//     00 61 E2 82  true   E2 goes on for one byte or more, and 82 can stand inside a character
+//     61 E2 82 AC  true   E2 goes on for two bytes or more, and so can AC
+//     E2 82 AC ED  true   E2 does not go on for three, as F0 would; and ED begins a character
+//     82 AC ED A0  false  ED goes on, but after it what stands inside ends at 9F
+// A block that ends in `61 E2 82` fits too; `unfinished` answers 2 for it, and the whole characters end two bytes before the block does.
+ghost use mathlib.Core.Path.{_≡_};
+ghost use mathlib.Core.Bool.{true};
+ghost use mathlib.Core.Logic.{_↔_};
+ghost use Prim.Native.Nat.{_≤_, _<_};
+ghost use lib.ListN.{length};
+ghost use Rattle.utf8.specs.Valid.{Valid};
+ghost use Rattle.utf8.specs.Ascii.{Ascii, AsciiStart};
+ghost use Rattle.utf8.specs.Fit.{Fits, AllFit, Fitting, FitStart, unfinishedOf};
+
+// Whether every byte of s is ASCII, below 0x80; of an empty s too.
+fn all_ascii(s: &[u8]) -> bool
+    ensures { λ r. ⌜ (r ≡ true) ↔ Ascii (now (s .entry)) ⌝ }
+{
+    let mut bits: u8 = 0;
+    let mut i = 0;
+    while i < s.len() {
+        bits = bits | s[i];
+        i += 1;
+    }
+    bits < 0x80
+}
+
+// How many bytes the blocks of ASCII take with which s begins, each of `size` bytes. 0 where the first block is not ASCII, or s is
+// shorter than a block.
+pub(crate) fn ascii_blocks(s: &[u8], size: usize) -> usize
+    requires { ⌜ 0 < size ⌝ }
+    ensures { λ r. ⌜ AsciiStart (now (s .entry)) r ⌝ }
+{
+    let mut at = 0;
+    while size <= s.len() - at {
+        let end = at + size;
+        if !all_ascii(&s[at..end]) {
+            return at;
+        }
+        at = end;
+    }
+    at
+}
+
+// Whether d can stand right after a, b and c: inside a character where one of them says that a character goes on, else at the start
+// of one. No branch, so that the compiler can test many bytes at once.
+fn fits_after(a: u8, b: u8, c: u8, d: u8) -> bool
+    ensures { λ r. ⌜ (r ≡ true) ↔ Fits a b c d ⌝ }
+{
+    let goes_on = (0xF0 <= a) | (0xE0 <= b) | (0xC0 <= c);
+    let inside = (0x80 <= d) & (d <= 0xBF);
+    let never = (d == 0xC0) | (d == 0xC1) | (0xF4 < d);
+    let overlong = (c == 0xE0) & (d < 0xA0) | (c == 0xF0) & (d < 0x90);
+    let surrogate = (c == 0xED) & (0x9F < d);
+    let too_large = (c == 0xF4) & (0x8F < d);
+    (goes_on == inside) & !(never | overlong | surrogate | too_large)
+}
+
+// Whether each byte of s from the fourth on fits after the three before it; also where there is no fourth.
+fn all_fit(s: &[u8]) -> bool
+    ensures { λ r. ⌜ (r ≡ true) ↔ AllFit (now (s .entry)) ⌝ }
+{
+    let mut fit = true;
+    let mut i = 3;
+    while i < s.len() {
+        fit = fit & fits_after(s[i - 3], s[i - 2], s[i - 1], s[i]);
+        i += 1;
+    }
+    fit
+}
+
+// The same as `all_fit`, sooner where all of s is ASCII.
+fn block_fits(s: &[u8]) -> bool
+    ensures { λ r. ⌜ (r ≡ true) ↔ AllFit (now (s .entry)) ⌝ }
+{
+    if all_ascii(s) {
+        return true;
+    }
+    all_fit(s)
+}
+
+// Up to where the bytes of s fit, by blocks of 64: up to `from` they do. It ends before the first block of which a byte does not fit,
+// or where less than a block is left.
+fn fitting_blocks(s: &[u8], from: usize) -> usize
+    requires { ⌜ Fitting (now s) from ⌝ }
+    ensures { λ r. ⌜ Fitting (now (s .entry)) r ⌝ }
+{
+    let mut at = from;
+    while 64 <= s.len() - at {
+        let start = at - 3;
+        let end = at + 64;
+        if !block_fits(&s[start..end]) {
+            return at;
+        }
+        at = end;
+    }
+    at
+}
+
+// Whether a, b and c fit at the start of a text, as if zeros stood before it.
+fn start_fits(a: u8, b: u8, c: u8) -> bool
+    ensures { λ r. ⌜ (r ≡ true) ↔ FitStart a b c ⌝ }
+{
+    fits_after(0, 0, 0, a) & fits_after(0, 0, a, b) & fits_after(0, a, b, c)
+}
+
+// Up to where the bytes of s fit, before a block is tested: the `ascii` bytes with which s begins where they are a block or more,
+// else its first three bytes. 0 where those do not fit.
+fn fitting_start(s: &[u8], ascii: usize) -> usize
+    requires { ⌜ AsciiStart (now s) ascii × (3 ≤ length (now s)) ⌝ }
+    ensures { λ r. ⌜ (0 < r → Fitting (now (s .entry)) r) ⌝ }
+{
+    if 64 <= ascii {
+        return ascii;
+    }
+    if start_fits(s[0], s[1], s[2]) {
+        return 3;
+    }
+    0
+}
+
+// How many of a, b and c, the last bytes of a text, belong to a character that goes on after them: 0 to 3.
+fn unfinished(a: u8, b: u8, c: u8) -> usize
+    ensures { λ r. ⌜ (r ≡ unfinishedOf a b c) × (r ≤ 3) ⌝ }
+{
+    if 0xC0 <= c {
+        return 1;
+    }
+    if 0xE0 <= b {
+        return 2;
+    }
+    if 0xF0 <= a {
+        return 3;
+    }
+    0
+}
+
+// How many bytes the whole characters take in the blocks with which s begins: those of ASCII, then those of which each byte fits.
+// 0 where s is shorter than a block.
+pub(crate) fn by_blocks(s: &[u8]) -> usize
+    ensures { λ r. ⌜ Valid (now (s .entry)) r ⌝ }
+{
+    let ascii = ascii_blocks(s, 64);
+    if s.len() - ascii < 64 {
+        return ascii;
+    }
+    let start = fitting_start(s, ascii);
+    if start == 0 {
+        return 0;
+    }
+    let end = fitting_blocks(s, start);
+    end - unfinished(s[end - 3], s[end - 2], s[end - 1])
+}
