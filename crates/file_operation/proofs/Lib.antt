@@ -2,5 +2,6 @@ pub mod Modes
 pub mod Lengths
 pub mod Rewrites
 pub mod UniqueRewriting
+pub mod Calls
 pub mod Demand
 pub mod Unique

@@ -136,7 +136,7 @@ request-back s q tail h = (
   h .within,
 )
 
-abbrev requestAnswerOf : Seen RequestFileTransferRequest → RequestAnswer
+abbrev pub requestAnswerOf : Seen RequestFileTransferRequest → RequestAnswer
 requestAnswerOf (found q tail) = RequestAnswer.Accepted q tail
 requestAnswerOf (stopped e) = RequestAnswer.Refused e
 

@@ -2,4 +2,5 @@ pub mod Cases
 pub mod Laid
 pub mod Unique
 pub mod DemandThree
+pub mod DemandThreeExample
 pub mod SentHeld

@@ -99,7 +99,7 @@ response-back s q tail h = (
 )
 
 -- the answer that was seen
-abbrev answerOf : Seen RequestFileTransferResponse → ResponseAnswer
+abbrev pub answerOf : Seen RequestFileTransferResponse → ResponseAnswer
 answerOf (found q tail) = ResponseAnswer.Accepted q tail
 answerOf (stopped e) = ResponseAnswer.Refused e
 
