@@ -4,4 +4,5 @@ pub mod Rewrites
 pub mod UniqueRewriting
 pub mod Calls
 pub mod Demand
+pub mod Longest
 pub mod Unique

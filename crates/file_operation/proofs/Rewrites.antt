@@ -24,7 +24,8 @@ beside-within s (WriteAnswer.Accepted n) h = h
 beside-within s (WriteAnswer.Refused e) h = tt
 
 -- what was handed out is written, with the tail beside the answer
-handed-out : (message : Answer (List ℕ)) (t old : List ℕ) → rewrittenInto (handOut message t) old ≡ record { answer = tailBeside t (written message old .answer); contents = written message old .contents }
+pub handed-out : (message : Answer (List ℕ)) (t old : List ℕ)
+    → rewrittenInto (handOut message t) old ≡ record { answer = tailBeside t (written message old .answer); contents = written message old .contents }
 unfolding give refuse
 handed-out (accepted u) t old = refl
 handed-out (refused r) t old = refl

@@ -2,6 +2,7 @@
 -- Assumes nothing.
 use Prim.Native.Nat.{ℕ, _^_, _<_}
 use mathlib.Core.Path.{_≡_, refl, sym, ap, ap₂, _∙_}
+use native.Mathlib.Nat.{div-add-mod'}
 use Rattle.paper.specs.Answer.{Answer, accepted, refused}
 use Rattle.paper.specs.Kind.{Kind, addFile, deleteFile, replaceFile, readFile, readDir, resumeFile}
 use Rattle.wire.specs.Size.{value}
@@ -48,6 +49,15 @@ kind-back ReadFile = refl
 kind-back ReadDir = refl
 kind-back ResumeFile = refl
 
+-- and the paper's from the code's
+pub kind-again : (k : Kind) → kindOf (kindBack k) ≡ k
+kind-again addFile = refl
+kind-again deleteFile = refl
+kind-again replaceFile = refl
+kind-again readFile = refl
+kind-again readDir = refl
+kind-again resumeFile = refl
+
 -- the answer that the paper's stands for
 abbrev modeBack : Answer Kind → ModeAnswer
 modeBack (accepted k) = ModeAnswer.Accepted (kindBack k)
@@ -88,6 +98,10 @@ pub format-value-determined : Determined 0 format-value-kinds.ps format-value-ki
 format-value-determined κs a x y r₁ r₂ p q = p ∙ sym q
 
 -- ---- payloads of two sizes
+-- a number comes back from its size
+pub size-again : (n : ℕ) → value (sizeOf n) ≡ n
+size-again n = div-add-mod' n (2 ^ 64)
+
 -- the payload of a request, of two sizes
 abbrev pub sizesOf : Size → Size → SizePayload
 sizesOf u c = record { «file_size_uncompressed» = u; «file_size_compressed» = c }

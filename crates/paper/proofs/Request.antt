@@ -5,21 +5,21 @@ use Prim.Native.Nat.{ℕ, _+_, _*_, _-_, _^_, _≤_, _<_}
 use mathlib.Core.List.{List, [], _∷_, _++_}
 use mathlib.Core.Bool.{true}
 use native.Mathlib.Omega.{arith}
-use borrow.Author.Tests.{le-leb}
-use lib.Dec.{lit<}
+use borrow.Author.Tests.{leb-true, le-leb}
+use lib.Dec.{leb, lit<}
 use lib.ListN.{length, replicate, length-append, length-replicate}
-use Rattle.paper.specs.Answer.{accepted}
+use Rattle.paper.specs.Answer.{accepted, wrongFormat, check}
 use Rattle.paper.specs.Sizes.{Fit, Holds, fit, firstFit, width}
-use Rattle.paper.specs.Utf8.{Utf8}
+use Rattle.paper.specs.Utf8.{Utf8, isUtf8}
 use Rattle.paper.specs.Kind.{Kind, addFile, deleteFile, replaceFile, readFile, readDir, resumeFile, modeOf}
 use Rattle.paper.specs.Field.{firstSize, secondSize, withCount, sizesAt}
 use Rattle.paper.specs.Rewriting.{Layout, Message, Demand3}
 use Rattle.paper.specs.Request.{Request, request, AfterName, formatAndSizes, nothing, formatOnly, afterName, readAfterName, readRequest, requestSizes, writeAfterName, requestAt, requestBytes, writeRequest, rewriteRequest, WritableRequest, keptAfterName, asRead, RequestWay}
 use Rattle.paper.proofs.Utf8.{is-utf8, utf8-bytes, utf8-letters}
 use Rattle.paper.proofs.Bytes.{length-toBytes}
-use Rattle.paper.proofs.Sizes.{fit-more, any-width}
+use Rattle.paper.proofs.Sizes.{fit-more, any-width, width-within}
 use Rattle.paper.proofs.Codec as codec
-use Rattle.paper.proofs.Codec.{Wire, Reads, layout, Then, reads-then, reads-as, Given, reads-give, Kept, always, reads-map, Best}
+use Rattle.paper.proofs.Codec.{check-passed, Wire, Reads, layout, Then, reads-then, reads-as, Given, reads-give, Kept, always, reads-map, Best}
 use Rattle.paper.proofs.Fields.{Byte, reads-byte, Name, reads-name, Sizes, reads-sizes, two-of, Coded, small-mode, reads-known}
 use Rattle.paper.proofs.Width.{Shaped, shaped-same, shaped-after, shaped-sizes, length-sizesAt, best-width}
 
@@ -223,12 +223,24 @@ length-rest formatAndSizes m w l = simp length-sizesAt (omega arith)
 length-rest nothing m w l = omega arith
 length-rest formatOnly m w l = omega arith
 
+length-request : (m : Request) (w : ℕ) → w ≤ 16 → length (m .name) ≤ 65535 → length (requestAt w m) ≤ 65572
+unfolding requestAt withCount
+length-request m w l short = let most = length-rest (afterName (m .kind)) m w l in simp (length-append, length-toBytes) (omega arith)
+
 -- no way of writing a request has more than 65,572 bytes
 pub request-longest : (m : Request) (u : List ℕ) → RequestWay m u → length u ≤ 65572
-unfolding requestAt withCount
-request-longest m u v =
-    let most = length-rest (afterName (m .kind)) m (v .width) (v .holds .within) in
-    rw (v .is) (simp (length-append, length-toBytes) (omega (arith, v .writable .short)))
+request-longest m u v = rw (v .is) (length-request m (v .width) (v .holds .within) (v .writable .short))
+
+-- and whatever stands for what a kind lacks, no more are written
+pub written-longest : (m : Request) (u : List ℕ) → writeRequest m ≡ accepted u → length u ≤ 65572
+unfolding writeRequest requestBytes
+written-longest m u e =
+    let bytes = accepted (requestBytes m) in
+    let utf8 = isUtf8 (m .name) in
+    let (short, e₁) = check-passed (leb (length (m .name)) 65535) wrongFormat (check utf8 wrongFormat bytes) e in
+    let (good, e₂) = check-passed utf8 wrongFormat bytes e₁ in
+    let is : u ≡ requestBytes m = cc in
+    rw is (length-request m (width (requestSizes m)) (width-within (requestSizes m)) (leb-true (length (m .name)) 65535 short))
 
 -- and one that is written has as many: a name of 65,535 letters and the largest size
 large : ℕ → Request

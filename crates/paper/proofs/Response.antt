@@ -5,10 +5,10 @@ use Prim.Native.Nat.{ℕ, _+_, _*_, _-_, _^_, _≤_, _<_}
 use mathlib.Core.List.{List, [], _∷_, _++_}
 use mathlib.Core.Bool.{true}
 use native.Mathlib.Omega.{arith}
-use borrow.Author.Tests.{le-leb}
-use lib.Dec.{lit<}
+use borrow.Author.Tests.{leb-true, le-leb}
+use lib.Dec.{leb, lit<}
 use lib.ListN.{length, replicate, length-append, length-replicate}
-use Rattle.paper.specs.Answer.{accepted}
+use Rattle.paper.specs.Answer.{accepted, wrongFormat}
 use Rattle.paper.specs.Bytes.{Bytes, toBytes}
 use Rattle.paper.specs.Sizes.{Fit, Holds, fit, firstFit, width}
 use Rattle.paper.specs.Kind.{Kind, addFile, deleteFile, replaceFile, readFile, readDir, resumeFile, modeOf}
@@ -16,9 +16,9 @@ use Rattle.paper.specs.Field.{firstSize, secondSize, withCount, sizesAt}
 use Rattle.paper.specs.Rewriting.{Layout, Message, Demand3}
 use Rattle.paper.specs.Response.{Response, response, AfterFormat, nothing, twoSizes, oneSize, place, AfterMode, ended, blockAndFormat, afterMode, readAfterFormat, readAfterMode, readResponse, sizesOf, responseSizes, writeAfterFormat, writeAfterMode, responseAt, responseBytes, keptAfterFormat, keptAfterMode, asRead, writeResponse, rewriteResponse, WritableResponse, ResponseWay}
 use Rattle.paper.proofs.Bytes.{bytes-replicate, length-toBytes}
-use Rattle.paper.proofs.Sizes.{fit-more, any-width}
+use Rattle.paper.proofs.Sizes.{fit-more, any-width, width-within}
 use Rattle.paper.proofs.Codec as codec
-use Rattle.paper.proofs.Codec.{Wire, Reads, layout, Then, reads-then, reads-as, Given, reads-give, Kept, always, reads-map, Best}
+use Rattle.paper.proofs.Codec.{check-passed, Wire, Reads, layout, Then, reads-then, reads-as, Given, reads-give, Kept, always, reads-map, Best}
 use Rattle.paper.proofs.Fields.{Byte, reads-byte, Number, reads-number, Count, reads-counted, Sizes, reads-sizes, one-of, two-of, Coded, small-mode, reads-known}
 use Rattle.paper.proofs.Width.{Shaped, shaped-same, shaped-after, shaped-sizes, length-sizesAt, best-width}
 
@@ -325,6 +325,17 @@ length-rest (blockAndFormat h) m w l s = simp (length-append, length-toBytes) (o
 pub response-longest : (m : Response) (u : List ℕ) → ResponseWay m u → length u ≤ 292
 unfolding responseAt
 response-longest m u v = rw (v .is) (omega (arith, length-rest (afterMode (m .kind)) m (v .width) (v .holds .within) (v .writable .short)))
+
+-- and whatever stands for what a kind lacks, no more are written
+pub written-longest : (m : Response) (u : List ℕ) → writeResponse m ≡ accepted u → length u ≤ 292
+unfolding writeResponse responseBytes responseAt
+written-longest m u e =
+    let (short, bytes) = check-passed (leb (length (asRead m .block)) 255) wrongFormat (accepted (responseBytes m)) e in
+    let (twice, same) = ignored (m .kind) (m .block) (m .format) (m .uncompressed) (m .compressed) (m .position) in
+    let is : u ≡ responseBytes (asRead m) = cc in
+    let k = afterMode (asRead m .kind) in
+    let most = length-rest k (asRead m) (width (responseSizes k (asRead m))) (width-within (responseSizes k (asRead m))) (leb-true (length (asRead m .block)) 255 short) in
+    rw is (omega arith)
 
 -- and one that is written has as many: 255 block-length bytes and the largest size
 large : ℕ → Response

@@ -58,6 +58,20 @@ smallest-width xs v h =
       least = λ u g. let (a, b, c) = first-fit 15 1 xs u (g .positive) (omega (arith, g .within)) (g .fit) in c;
     }
 
+-- trying ends at 16, whatever the sizes
+first-fit-within : (n w : ℕ) (xs : List ℕ) → firstFit n w xs ≤ w + n
+unfolding firstFit
+first-fit-within zero w xs = omega arith
+first-fit-within (suc n) w xs = go (fit w xs) (first-fit-within n (suc w) xs)
+  where
+    go : (b : Bool) → firstFit n (suc w) xs ≤ suc w + n → pick b w (firstFit n (suc w) xs) ≤ w + suc n
+    go true h = omega arith
+    go false h = omega arith
+
+pub width-within : (xs : List ℕ) → width xs ≤ 16
+unfolding width
+width-within xs = first-fit-within 15 1 xs
+
 -- no second width is the smallest
 pub smallest-once : {xs : List ℕ} {w v : ℕ} → Smallest xs w → Smallest xs v → w ≡ v
 smallest-once {xs} {w} {v} p q = le-antisymm (p .least v (q .holds)) (q .least w (p .holds))

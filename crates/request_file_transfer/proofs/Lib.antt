@@ -4,4 +4,5 @@ pub mod Laid
 pub mod Unique
 pub mod DemandThree
 pub mod DemandThreeExample
+pub mod LongestRequest
 pub mod NameHeld
