@@ -11,25 +11,41 @@ use crate::rows::routine_response_refused;
 use crate::rows::width_is;
 use crate::tally::Tally;
 use crate::tally::row;
+use file_operation::mode::FileOperationMode;
+use routine_control::sub_function::RoutineControlSubFunction;
 
 // Requests.
 fn request_rows(t: Tally) -> Tally {
     let t = row(
         t,
         b"P request 02 00 01 61: DeleteFile, name 61",
-        request_is(b"\x02\x00\x01\x61", 2, b"a", 0, 0, 0),
+        request_is(
+            b"\x02\x00\x01\x61",
+            FileOperationMode::DeleteFile,
+            b"a",
+            0,
+            0,
+            0,
+        ),
     );
     let t = row(
         t,
         b"P request 01 00 01 61 00 01 00 00: AddFile, sizes 0 and 0",
-        request_is(b"\x01\x00\x01\x61\x00\x01\x00\x00", 1, b"a", 0, 0, 0),
+        request_is(
+            b"\x01\x00\x01\x61\x00\x01\x00\x00",
+            FileOperationMode::AddFile,
+            b"a",
+            0,
+            0,
+            0,
+        ),
     );
     let t = row(
         t,
         b"P request 01 00 01 61 11 02 00 FF 01 00: sizes 255 and 256",
         request_is(
             b"\x01\x00\x01\x61\x11\x02\x00\xFF\x01\x00",
-            1,
+            FileOperationMode::AddFile,
             b"a",
             0x11,
             255,
@@ -41,7 +57,7 @@ fn request_rows(t: Tally) -> Tally {
         b"P request 01 00 01 61 11 03 00 00 FF 00 01 00: same meaning as the row above",
         request_is(
             b"\x01\x00\x01\x61\x11\x03\x00\x00\xFF\x00\x01\x00",
-            1,
+            FileOperationMode::AddFile,
             b"a",
             0x11,
             255,
@@ -88,12 +104,24 @@ fn response_and_routine_rows(t: Tally) -> Tally {
     let t = row(
         t,
         b"P response 05 00 00 00 01 00: ReadDir, size 0",
-        response_is(b"\x05\x00\x00\x00\x01\x00", 5, b"", 0, 0),
+        response_is(
+            b"\x05\x00\x00\x00\x01\x00",
+            FileOperationMode::ReadDir,
+            b"",
+            0,
+            0,
+        ),
     );
     let t = row(
         t,
         b"P routine request 81 02 03 AA: suppress, start, 0x0203, record AA",
-        routine_request_is(b"\x81\x02\x03\xAA", true, 1, 0x0203, b"\xAA"),
+        routine_request_is(
+            b"\x81\x02\x03\xAA",
+            true,
+            RoutineControlSubFunction::StartRoutine,
+            0x0203,
+            b"\xAA",
+        ),
     );
     let t = row(
         t,
