@@ -7,7 +7,6 @@ use crate::tally::passed;
 use crate::text::put;
 use crate::text::put_hex;
 use bytes::scan::find;
-use check::same;
 ghost use Rattle.io.specs.Counts.{Counts};
 
 // The line written anew: its own letter and input, and then our answer. What cannot be taken apart comes out otherwise than it was.
@@ -25,12 +24,6 @@ fn anew(line: &[u8], out: &mut [u8]) -> usize
     put_answer(line[0], &input[..n], out, front)
 }
 
-fn is_right(line: &[u8]) -> bool {
-    let mut text = io::buffer();
-    let n = anew(line, &mut text);
-    same(&text[..n], line)
-}
-
 // Empty lines fill a page up, and the head's begin with a number sign.
 fn judge(t: Tally, line: &[u8]) -> Tally {
     if line.len() == 0 {
@@ -39,7 +32,9 @@ fn judge(t: Tally, line: &[u8]) -> Tally {
     if line[0] == b'#' {
         return passed(t);
     }
-    judged(t, line, is_right(line))
+    let mut text = io::buffer();
+    let n = anew(line, &mut text);
+    judged(t, line, &text[..n])
 }
 
 pub(crate) fn lines(t: Tally, page: &[u8]) -> Tally {
