@@ -52,9 +52,6 @@ code-again (DtcRecordRead.Refused e) = refl
 pub code-new-determined : Determined 0 code.new.Kinds.ps code.new.Kinds.r code.new.Reads.Post
 code-new-determined κs a x y r₁ r₂ p q = ap recordOf (p ∙ sym q)
 
-pub code-clear-all-dtcs-determined : Determined 0 code.«clear_all_dtcs».Kinds.ps code.«clear_all_dtcs».Kinds.r code.«clear_all_dtcs».Reads.Post
-code-clear-all-dtcs-determined κs a x y r₁ r₂ p q = ap recordOf (p ∙ sym q)
-
 pub code-high-byte-determined : Determined 0 code.«high_byte».Kinds.ps code.«high_byte».Kinds.r code.«high_byte».Reads.Post
 code-high-byte-determined κs a x y r₁ r₂ p q = p ∙ sym q
 

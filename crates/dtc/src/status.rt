@@ -12,7 +12,12 @@ ghost use mathlib.Core.List.{[], _∷_};
 ghost use lib.Dec.{eqb};
 ghost use lib.Bits.{bitAnd, bitOr};
 ghost use Rattle.paper.specs.Answer.{accepted};
-ghost use Rattle.paper.specs.TroubleCode.{numberOf, fromNumber, troubleCode, allCodes, troubleCodeBytes, matches, testFailed, testFailedThisOperationCycle, pendingDtc, confirmedDtc, testNotCompletedSinceLastClear, testFailedSinceLastClear, testNotCompletedThisOperationCycle, warningIndicatorRequested, dtcClass, maintenanceOnly, checkAtNextHalt, checkImmediately, severityValid, groupOf, formatOf, reservedRecordNumber};
+ghost use Rattle.paper.specs.TroubleCode.{troubleCode, wireSize, allCodes, numberOf, fromNumber, troubleCodeBytes};
+ghost use Rattle.paper.specs.TroubleCode.{maskOf, matches, testFailed, testFailedThisOperationCycle, pendingDtc, confirmedDtc};
+ghost use Rattle.paper.specs.TroubleCode.{testNotCompletedSinceLastClear, testFailedSinceLastClear};
+ghost use Rattle.paper.specs.TroubleCode.{testNotCompletedThisOperationCycle, warningIndicatorRequested};
+ghost use Rattle.paper.specs.TroubleCode.{dtcClass, maintenanceOnly, checkAtNextHalt, checkImmediately, severityValid};
+ghost use Rattle.paper.specs.TroubleCode.{groupOf, formatOf, reservedRecordNumber};
 ghost use Rattle.wire.specs.Writing.{Wrote};
 ghost use Rattle.wire.specs.Reading.{refusalIn};
 ghost use Rattle.dtc.specs.Status.{codeOf, numberSaid, sameCode, seenRecord, RecordRight, NextRight, seenStatus, StatusRight, seenSeverity, SeverityRight, groupByte, groupName, seenGroup, GroupRight, formatByte, formatName, seenNumber, NumberRight};
@@ -67,6 +72,14 @@ impl DtcRecord {
         low_byte: 0xFF,
     };
 
+    // What the paper says of the two, each asked by its name. Nobody calls this: its promise is the table.
+    fn constants()
+        ensures { λ r. do ⌜ (← ⟦DtcRecord::WIRE_SIZE⟧ .entry) ≡ wireSize ⌝ }
+        ensures { λ r. do ⌜ (← ⟦DtcRecord::CLEAR_ALL_DTCS.high_byte⟧ .entry) ≡ allCodes .high ⌝ }
+        ensures { λ r. do ⌜ (← ⟦DtcRecord::CLEAR_ALL_DTCS.middle_byte⟧ .entry) ≡ allCodes .middle ⌝ }
+        ensures { λ r. do ⌜ (← ⟦DtcRecord::CLEAR_ALL_DTCS.low_byte⟧ .entry) ≡ allCodes .low ⌝ }
+    {}
+
     pub fn new(high_byte: u8, middle_byte: u8, low_byte: u8) -> DtcRecord
         ensures { λ r. ⌜ codeOf r ≡ troubleCode «high_byte» «middle_byte» «low_byte» ⌝ }
     {
@@ -75,13 +88,6 @@ impl DtcRecord {
             middle_byte,
             low_byte,
         }
-    }
-
-    // The all-codes record, FF FF FF.
-    pub fn clear_all_dtcs() -> DtcRecord
-        ensures { λ r. ⌜ codeOf r ≡ allCodes ⌝ }
-    {
-        DtcRecord::CLEAR_ALL_DTCS
     }
 
     pub fn high_byte(self) -> u8
@@ -173,17 +179,15 @@ impl DtcRecord {
     pub fn encode(self, out: &mut [u8]) -> WriteAnswer
         ensures { λ r. ⌜ Wrote (accepted (troubleCodeBytes (codeOf self))) (now (out .entry)) r (now (out .exit)) ⌝ }
     {
+        let needed = DtcRecord::WIRE_SIZE;
         let room = out.len();
-        if room < DtcRecord::WIRE_SIZE {
-            return WriteAnswer::Refused(Refusal::NoRoom {
-                needed: DtcRecord::WIRE_SIZE,
-                room,
-            });
+        if room < needed {
+            return WriteAnswer::Refused(Refusal::NoRoom { needed, room });
         }
         out[0] = self.high_byte;
         out[1] = self.middle_byte;
         out[2] = self.low_byte;
-        WriteAnswer::Accepted(DtcRecord::WIRE_SIZE)
+        WriteAnswer::Accepted(needed)
     }
 }
 
@@ -227,6 +231,18 @@ impl DtcStatusMask {
     pub const TestNotCompletedThisOperationCycle: DtcStatusMask = DtcStatusMask { bits: 0x40 };
 
     pub const WarningIndicatorRequested: DtcStatusMask = DtcStatusMask { bits: 0x80 };
+
+    // Each is the mask of the question that it is named after. Nobody calls this: its promise is the table.
+    fn constants()
+        ensures { λ r. do ⌜ (← ⟦DtcStatusMask::TestFailed.bits⟧ .entry) ≡ maskOf testFailed ⌝ }
+        ensures { λ r. do ⌜ (← ⟦DtcStatusMask::TestFailedThisOperationCycle.bits⟧ .entry) ≡ maskOf testFailedThisOperationCycle ⌝ }
+        ensures { λ r. do ⌜ (← ⟦DtcStatusMask::PendingDtc.bits⟧ .entry) ≡ maskOf pendingDtc ⌝ }
+        ensures { λ r. do ⌜ (← ⟦DtcStatusMask::ConfirmedDtc.bits⟧ .entry) ≡ maskOf confirmedDtc ⌝ }
+        ensures { λ r. do ⌜ (← ⟦DtcStatusMask::TestNotCompletedSinceLastClear.bits⟧ .entry) ≡ maskOf testNotCompletedSinceLastClear ⌝ }
+        ensures { λ r. do ⌜ (← ⟦DtcStatusMask::TestFailedSinceLastClear.bits⟧ .entry) ≡ maskOf testFailedSinceLastClear ⌝ }
+        ensures { λ r. do ⌜ (← ⟦DtcStatusMask::TestNotCompletedThisOperationCycle.bits⟧ .entry) ≡ maskOf testNotCompletedThisOperationCycle ⌝ }
+        ensures { λ r. do ⌜ (← ⟦DtcStatusMask::WarningIndicatorRequested.bits⟧ .entry) ≡ maskOf warningIndicatorRequested ⌝ }
+    {}
 
     // Every byte is a mask.
     pub fn from_bits(bits: u8) -> DtcStatusMask
@@ -388,6 +404,18 @@ impl DtcSeverityMask {
     pub const CheckAtNextHalt: DtcSeverityMask = DtcSeverityMask { bits: 0x40 };
 
     pub const CheckImmediately: DtcSeverityMask = DtcSeverityMask { bits: 0x80 };
+
+    // Each is the mask of the question that it is named after. Nobody calls this: its promise is the table.
+    fn constants()
+        ensures { λ r. do ⌜ (← ⟦DtcSeverityMask::DtcClass0.bits⟧ .entry) ≡ maskOf (dtcClass 0) ⌝ }
+        ensures { λ r. do ⌜ (← ⟦DtcSeverityMask::DtcClass1.bits⟧ .entry) ≡ maskOf (dtcClass 1) ⌝ }
+        ensures { λ r. do ⌜ (← ⟦DtcSeverityMask::DtcClass2.bits⟧ .entry) ≡ maskOf (dtcClass 2) ⌝ }
+        ensures { λ r. do ⌜ (← ⟦DtcSeverityMask::DtcClass3.bits⟧ .entry) ≡ maskOf (dtcClass 3) ⌝ }
+        ensures { λ r. do ⌜ (← ⟦DtcSeverityMask::DtcClass4.bits⟧ .entry) ≡ maskOf (dtcClass 4) ⌝ }
+        ensures { λ r. do ⌜ (← ⟦DtcSeverityMask::MaintenanceOnly.bits⟧ .entry) ≡ maskOf maintenanceOnly ⌝ }
+        ensures { λ r. do ⌜ (← ⟦DtcSeverityMask::CheckAtNextHalt.bits⟧ .entry) ≡ maskOf checkAtNextHalt ⌝ }
+        ensures { λ r. do ⌜ (← ⟦DtcSeverityMask::CheckImmediately.bits⟧ .entry) ≡ maskOf checkImmediately ⌝ }
+    {}
 
     // Every byte is a mask.
     pub fn from_bits(bits: u8) -> DtcSeverityMask

@@ -110,6 +110,14 @@ checkImmediately b = bit 7 b
 abbrev pub severityValid : ℕ → Bool
 severityValid b = either (dtcClass 0 b) (either (dtcClass 1 b) (either (dtcClass 2 b) (either (dtcClass 3 b) (dtcClass 4 b))))
 
+-- the mask of a question: the bits that it asks for, here those of the k lowest, added up by their values
+abbrev pub askedBelow : ℕ → (ℕ → Bool) → ℕ
+askedBelow zero question = 0
+askedBelow (suc k) question = pick (question (2 ^ k)) (2 ^ k) 0 + askedBelow k question
+
+abbrev pub maskOf : (ℕ → Bool) → ℕ
+maskOf question = askedBelow 8 question
+
 -- ---- names of codes
 pub data FunctionalGroup : Type 0 where
   emissions safety legislative vobd reservedGroup : FunctionalGroup
