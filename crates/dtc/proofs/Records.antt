@@ -11,7 +11,11 @@ use Rattle.paper.specs.Answer.{accepted, refused, tooShort, _leaving_, give}
 use Rattle.paper.specs.Field.{part}
 use Rattle.paper.specs.TroubleCode.{troubleCode, wireSize, readTroubleCode, asNext, nextTroubleCode}
 use Rattle.paper.proofs.Places.{on, off, part-short, part-there}
-use Rattle.dtc.specs.Status.{RecordRight, NextRight}
+use Rattle.wire.specs.Reading.{refusalIn}
+use Rattle.wire.specs.declared.refusal.Refusal.{Refusal}
+use Rattle.wire.proofs.Left.{left}
+use Rattle.dtc.specs.Status.{seenRecord, RecordRight, NextRight}
+use Rattle.dtc.specs.declared.status.DtcRecord.{DtcRecord}
 use Rattle.dtc.specs.declared.status.DtcRecordRead.{DtcRecordRead}
 use Rattle.dtc.specs.declared.status.DtcRecordNext.{DtcRecordNext}
 
@@ -40,13 +44,13 @@ module _ (s : List ℕ) (at : ℕ) where
   next-read : at < length s → asNext (readTroubleCode (drop at s)) ≡ nextTroubleCode (drop at s)
   next-read h = rw (drop-cons s at 0 h)
 
-  abbrev asRead : DtcRecordRead → DtcRecordNext
-  asRead (DtcRecordRead.Accepted c after) = DtcRecordNext.Record c after
-  asRead (DtcRecordRead.Refused e) = DtcRecordNext.Refused e
+  module _ {x : DtcRecordRead} (there : at < length s) (right : RecordRight s at x) where
+    -- a record
+    pub next-there : {c : DtcRecord} {after : ℕ} → x ≡ DtcRecordRead.Accepted c after → NextRight s at (DtcRecordNext.Record c after)
+    next-there {c} {after} is =
+        let known : RecordRight s at (DtcRecordRead.Accepted c after) = subst (RecordRight s at) is right in
+        record { paper = ap asNext (known .paper) ∙ next-read there; place = known .place }
 
-  pub next-as-read : {r x : DtcRecordRead} → at < length s → RecordRight s at r → r ≡ x → NextRight s at (asRead x)
-  next-as-read {x = x} h right is = go x (subst (RecordRight s at) is right)
-    where
-      go : (x : DtcRecordRead) → RecordRight s at x → NextRight s at (asRead x)
-      go (DtcRecordRead.Accepted c after) w = record { paper = ap asNext (w .paper) ∙ next-read h; place = w .place }
-      go (DtcRecordRead.Refused e) w = record { paper = ap asNext (w .paper) ∙ next-read h; place = tt }
+    -- a refusal, with which the caller leaves
+    pub next-refused : {e r : Refusal} → x ≡ DtcRecordRead.Refused e → r ≡ refusalIn (seenRecord x) → NextRight s at (DtcRecordNext.Refused r)
+    next-refused is from = record { paper = ap asNext (left right (ap seenRecord is) from) ∙ next-read there; place = tt }

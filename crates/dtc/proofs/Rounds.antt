@@ -5,7 +5,12 @@ use Prim.Native.Nat.{ℕ, _≤_, _<_}
 use borrow.Author.Tests.{lt-leb}
 use Rattle.paper.specs.Answer.{Answer, accepted, refused}
 use Rattle.paper.specs.Bytes.{Bytes}
-use Rattle.paper.specs.TroubleCode.{TroubleCode, numberOf, fromNumber, troubleCodeBytes, testFailed, testFailedThisOperationCycle, pendingDtc, confirmedDtc, testNotCompletedSinceLastClear, testFailedSinceLastClear, testNotCompletedThisOperationCycle, warningIndicatorRequested, dtcClass, maintenanceOnly, checkAtNextHalt, checkImmediately, FunctionalGroup, groupOf, emissions, safety, legislative, vobd, reservedGroup, Format, formatOf, saeJ2012DaFormat00, iso14229-1, saeJ1939-73, iso11992-4, saeJ2012DaFormat04, reservedFormat}
+use Rattle.paper.specs.TroubleCode.{TroubleCode, numberOf, fromNumber, troubleCodeBytes}
+use Rattle.paper.specs.TroubleCode.{testFailed, testFailedThisOperationCycle, pendingDtc, confirmedDtc}
+use Rattle.paper.specs.TroubleCode.{testNotCompletedSinceLastClear, testFailedSinceLastClear, testNotCompletedThisOperationCycle, warningIndicatorRequested}
+use Rattle.paper.specs.TroubleCode.{dtcClass, maintenanceOnly, checkAtNextHalt, checkImmediately}
+use Rattle.paper.specs.TroubleCode.{FunctionalGroup, groupOf, emissions, safety, legislative, vobd, reservedGroup}
+use Rattle.paper.specs.TroubleCode.{Format, formatOf, saeJ2012DaFormat00, iso14229-1, saeJ1939-73, iso11992-4, saeJ2012DaFormat04, reservedFormat}
 use Rattle.paper.proofs.TroubleCode.{number-there, number-back}
 use Rattle.wire.proofs.Refusals.{refusalBack, refusal-back}
 use Rattle.wire.specs.declared.refusal.Refusal.{Refusal}

@@ -29,16 +29,11 @@ use Rattle.dtc.specs.declared.status.DtcStoredDataRecordNumber.{DtcStore
 use Rattle.dtc.specs.declared.status.DtcStoredDataRecordNumberRead.{DtcStoredDataRecordNumberRead}
 use Rattle.dtc.proofs.Rounds.{recordOf, numberAnswer, answer-again, groupAt, group-again, group-once, format-once}
 use Rattle.dtc.proofs.status.DtcRecord as code
-use Rattle.dtc.proofs.status.DtcRecordRead as code-read
 use Rattle.dtc.proofs.status.DtcStatusMask as status
-use Rattle.dtc.proofs.status.DtcStatusMaskRead as status-read
 use Rattle.dtc.proofs.status.DtcSeverityMask as severity
-use Rattle.dtc.proofs.status.DtcSeverityMaskRead as severity-read
 use Rattle.dtc.proofs.status.FunctionalGroupIdentifier as group
-use Rattle.dtc.proofs.status.FunctionalGroupIdentifierRead as group-read
 use Rattle.dtc.proofs.status.DtcFormatIdentifier as format
 use Rattle.dtc.proofs.status.DtcStoredDataRecordNumber as number
-use Rattle.dtc.proofs.status.DtcStoredDataRecordNumberRead as number-read
 
 -- ---- trouble codes
 abbrev codeRead : Seen DtcRecord → DtcRecordRead
@@ -72,9 +67,6 @@ code-from-u32-determined κs a x y r₁ r₂ p q = sym (answer-again r₁) ∙ a
 
 pub code-decode-determined : Determined 1 code.decode.Kinds.ps code.decode.Kinds.r code.decode.Reads.Post
 code-decode-determined κs a x y = once recordOf (λ c after h. (refl, h .1)) seenRecord codeRead code-again
-
-pub code-read-refusal-determined : Determined 0 code-read.refusal.Kinds.ps code-read.refusal.Kinds.r code-read.refusal.Reads.Post
-code-read-refusal-determined κs a x y r₁ r₂ p q = p ∙ sym q
 
 -- the next record, from the paper's answer to a message of n bytes
 abbrev nextBack : ℕ → Answer Next → DtcRecordNext
@@ -124,7 +116,8 @@ status-bits-determined κs a x y r₁ r₂ p q = p ∙ sym q
 pub status-test-failed-determined : Determined 0 status.«test_failed».Kinds.ps status.«test_failed».Kinds.r status.«test_failed».Reads.Post
 status-test-failed-determined κs a x y r₁ r₂ p q = p ∙ sym q
 
-pub status-test-failed-this-operation-cycle-determined : Determined 0 status.«test_failed_this_operation_cycle».Kinds.ps status.«test_failed_this_operation_cycle».Kinds.r status.«test_failed_this_operation_cycle».Reads.Post
+pub status-test-failed-this-operation-cycle-determined :
+    Determined 0 status.«test_failed_this_operation_cycle».Kinds.ps status.«test_failed_this_operation_cycle».Kinds.r status.«test_failed_this_operation_cycle».Reads.Post
 status-test-failed-this-operation-cycle-determined κs a x y r₁ r₂ p q = p ∙ sym q
 
 pub status-pending-dtc-determined : Determined 0 status.«pending_dtc».Kinds.ps status.«pending_dtc».Kinds.r status.«pending_dtc».Reads.Post
@@ -133,16 +126,20 @@ status-pending-dtc-determined κs a x y r₁ r₂ p q = p ∙ sym q
 pub status-confirmed-dtc-determined : Determined 0 status.«confirmed_dtc».Kinds.ps status.«confirmed_dtc».Kinds.r status.«confirmed_dtc».Reads.Post
 status-confirmed-dtc-determined κs a x y r₁ r₂ p q = p ∙ sym q
 
-pub status-test-not-completed-since-last-clear-determined : Determined 0 status.«test_not_completed_since_last_clear».Kinds.ps status.«test_not_completed_since_last_clear».Kinds.r status.«test_not_completed_since_last_clear».Reads.Post
+pub status-test-not-completed-since-last-clear-determined :
+    Determined 0 status.«test_not_completed_since_last_clear».Kinds.ps status.«test_not_completed_since_last_clear».Kinds.r status.«test_not_completed_since_last_clear».Reads.Post
 status-test-not-completed-since-last-clear-determined κs a x y r₁ r₂ p q = p ∙ sym q
 
-pub status-test-failed-since-last-clear-determined : Determined 0 status.«test_failed_since_last_clear».Kinds.ps status.«test_failed_since_last_clear».Kinds.r status.«test_failed_since_last_clear».Reads.Post
+pub status-test-failed-since-last-clear-determined :
+    Determined 0 status.«test_failed_since_last_clear».Kinds.ps status.«test_failed_since_last_clear».Kinds.r status.«test_failed_since_last_clear».Reads.Post
 status-test-failed-since-last-clear-determined κs a x y r₁ r₂ p q = p ∙ sym q
 
-pub status-test-not-completed-this-operation-cycle-determined : Determined 0 status.«test_not_completed_this_operation_cycle».Kinds.ps status.«test_not_completed_this_operation_cycle».Kinds.r status.«test_not_completed_this_operation_cycle».Reads.Post
+pub status-test-not-completed-this-operation-cycle-determined :
+    Determined 0 status.«test_not_completed_this_operation_cycle».Kinds.ps status.«test_not_completed_this_operation_cycle».Kinds.r status.«test_not_completed_this_operation_cycle».Reads.Post
 status-test-not-completed-this-operation-cycle-determined κs a x y r₁ r₂ p q = p ∙ sym q
 
-pub status-warning-indicator-requested-determined : Determined 0 status.«warning_indicator_requested».Kinds.ps status.«warning_indicator_requested».Kinds.r status.«warning_indicator_requested».Reads.Post
+pub status-warning-indicator-requested-determined :
+    Determined 0 status.«warning_indicator_requested».Kinds.ps status.«warning_indicator_requested».Kinds.r status.«warning_indicator_requested».Reads.Post
 status-warning-indicator-requested-determined κs a x y r₁ r₂ p q = p ∙ sym q
 
 pub status-matches-determined : Determined 0 status.matches.Kinds.ps status.matches.Kinds.r status.matches.Reads.Post
@@ -150,9 +147,6 @@ status-matches-determined κs a x y r₁ r₂ p q = p ∙ sym q
 
 pub status-decode-determined : Determined 1 status.decode.Kinds.ps status.decode.Kinds.r status.decode.Reads.Post
 status-decode-determined κs a x y = once statusOf (λ m after h. (refl, h .1)) seenStatus statusRead status-again
-
-pub status-read-refusal-determined : Determined 0 status-read.refusal.Kinds.ps status-read.refusal.Kinds.r status-read.refusal.Reads.Post
-status-read-refusal-determined κs a x y r₁ r₂ p q = p ∙ sym q
 
 pub status-encode-determined : (κs : Lfts 1) (a : Dens κs status.encode.Kinds.ps) (x y : AtExit (endedOf 1 status.encode.Kinds.ps status.encode.Kinds.r) κs) (r s : WriteAnswer)
     → status.encode.Reads.Post κs a r x → status.encode.Reads.Post κs a s y → (r ≡ s) × (now (x .1 .0) ≡ now (y .1 .0))
@@ -212,9 +206,6 @@ severity-is-valid-determined κs a x y r₁ r₂ p q = p ∙ sym q
 pub severity-decode-determined : Determined 1 severity.decode.Kinds.ps severity.decode.Kinds.r severity.decode.Reads.Post
 severity-decode-determined κs a x y = once severityOf (λ m after h. (refl, h .1)) seenSeverity severityRead severity-again
 
-pub severity-read-refusal-determined : Determined 0 severity-read.refusal.Kinds.ps severity-read.refusal.Kinds.r severity-read.refusal.Reads.Post
-severity-read-refusal-determined κs a x y r₁ r₂ p q = p ∙ sym q
-
 pub severity-encode-determined : (κs : Lfts 1) (a : Dens κs severity.encode.Kinds.ps) (x y : AtExit (endedOf 1 severity.encode.Kinds.ps severity.encode.Kinds.r) κs) (r s : WriteAnswer)
     → severity.encode.Reads.Post κs a r x → severity.encode.Reads.Post κs a s y → (r ≡ s) × (now (x .1 .0) ≡ now (y .1 .0))
 severity-encode-determined κs a x y r s p q = wrote-once p q
@@ -240,9 +231,6 @@ group-back g e = rw (← e) (group-again g)
 
 pub group-decode-determined : Determined 1 group.decode.Kinds.ps group.decode.Kinds.r group.decode.Reads.Post
 group-decode-determined κs a x y = once (λ b. groupAt (groupOf b) b) (λ g after h. (group-back g (h .0), h .1 .1)) seenGroup groupRead group-seen-again
-
-pub group-read-refusal-determined : Determined 0 group-read.refusal.Kinds.ps group-read.refusal.Kinds.r group-read.refusal.Reads.Post
-group-read-refusal-determined κs a x y r₁ r₂ p q = p ∙ sym q
 
 pub group-encode-determined : (κs : Lfts 1) (a : Dens κs group.encode.Kinds.ps) (x y : AtExit (endedOf 1 group.encode.Kinds.ps group.encode.Kinds.r) κs) (r s : WriteAnswer)
     → group.encode.Reads.Post κs a r x → group.encode.Reads.Post κs a s y → (r ≡ s) × (now (x .1 .0) ≡ now (y .1 .0))
@@ -278,9 +266,6 @@ number-is-reserved-determined κs a x y r₁ r₂ p q = p ∙ sym q
 
 pub number-decode-determined : Determined 1 number.decode.Kinds.ps number.decode.Kinds.r number.decode.Reads.Post
 number-decode-determined κs a x y = once storedNumber (λ m after h. (refl, h .1)) seenNumber numberRead number-again
-
-pub number-read-refusal-determined : Determined 0 number-read.refusal.Kinds.ps number-read.refusal.Kinds.r number-read.refusal.Reads.Post
-number-read-refusal-determined κs a x y r₁ r₂ p q = p ∙ sym q
 
 pub number-encode-determined : (κs : Lfts 1) (a : Dens κs number.encode.Kinds.ps) (x y : AtExit (endedOf 1 number.encode.Kinds.ps number.encode.Kinds.r) κs) (r s : WriteAnswer)
     → number.encode.Reads.Post κs a r x → number.encode.Reads.Post κs a s y → (r ≡ s) × (now (x .1 .0) ≡ now (y .1 .0))

@@ -1,13 +1,15 @@
 -- What the answers of trouble-code fields say, in the paper's terms.
 use mathlib.Core.Path.{_≡_}
 use mathlib.Core.Bool.{Bool}
-use Prim.Native.Nat.{ℕ, _≤_}
+use Prim.Native.Nat.{ℕ}
 use mathlib.Core.List.{List}
 use lib.Dec.{eqb}
-use lib.ListN.{length, drop}
+use lib.ListN.{drop}
 use Rattle.paper.specs.Choice.{both}
-use Rattle.paper.specs.Answer.{Answer, accepted, refused, Read, _leaving_}
-use Rattle.paper.specs.TroubleCode.{TroubleCode, troubleCode, readTroubleCode, wireSize, Next, none, next, nextTroubleCode, oneByteField, FunctionalGroup, groupOf, emissions, safety, legislative, vobd, reservedGroup, Format, saeJ2012DaFormat00, iso14229-1, saeJ1939-73, iso11992-4, saeJ2012DaFormat04, reservedFormat}
+use Rattle.paper.specs.Answer.{Answer, accepted, refused, _leaving_}
+use Rattle.paper.specs.TroubleCode.{TroubleCode, troubleCode, readTroubleCode, wireSize, Next, none, next, nextTroubleCode, oneByteField}
+use Rattle.paper.specs.TroubleCode.{FunctionalGroup, groupOf, emissions, safety, legislative, vobd, reservedGroup}
+use Rattle.paper.specs.TroubleCode.{Format, saeJ2012DaFormat00, iso14229-1, saeJ1939-73, iso11992-4, saeJ2012DaFormat04, reservedFormat}
 use Rattle.wire.specs.Refusals.{row}
 use Rattle.wire.specs.Reading.{Seen, found, stopped, Right, Onwards}
 use Rattle.dtc.specs.declared.status.DtcRecord.{DtcRecord}
@@ -25,12 +27,15 @@ use Rattle.dtc.specs.declared.status.DtcStoredDataRecordNumber.{DtcStore
 use Rattle.dtc.specs.declared.status.DtcStoredDataRecordNumberRead.{DtcStoredDataRecordNumberRead}
 
 -- ---- the trouble code
+-- the code that a record holds
 abbrev pub codeOf : DtcRecord → TroubleCode
 codeOf c = troubleCode (c .«high_byte») (c .«middle_byte») (c .«low_byte»)
 
+-- all three bytes agree
 abbrev pub sameCode : TroubleCode → TroubleCode → Bool
 sameCode a b = both (eqb (a .high) (b .high)) (both (eqb (a .middle) (b .middle)) (eqb (a .low) (b .low)))
 
+-- what the answer to a number says
 abbrev pub numberSaid : DtcRecordAnswer → Answer TroubleCode
 numberSaid (DtcRecordAnswer.Accepted c) = accepted (codeOf c)
 numberSaid (DtcRecordAnswer.Refused e) = refused (row e)
@@ -39,25 +44,29 @@ abbrev pub seenRecord : DtcRecordRead → Seen DtcRecord
 seenRecord (DtcRecordRead.Accepted c after) = found c after
 seenRecord (DtcRecordRead.Refused e) = stopped e
 
+-- the answer r at a position of the message s is the paper's; the next field begins three bytes on
 abbrev pub RecordRight : List ℕ → ℕ → DtcRecordRead → Type 0
 RecordRight s at r = Right DtcRecord TroubleCode codeOf readTroubleCode (λ (c : DtcRecord) (after : ℕ). Onwards s at wireSize after) s at (seenRecord r)
 
--- the next record of the message s
+-- what the answer about the next record of the message s says
 abbrev pub nextSaid : List ℕ → DtcRecordNext → Answer Next
 nextSaid s DtcRecordNext.Nothing = accepted none
 nextSaid s (DtcRecordNext.Record c at) = accepted (next (codeOf c leaving drop at s))
 nextSaid s (DtcRecordNext.Refused e) = refused (row e)
 
+-- where the field after a record begins
 abbrev pub nextPlace : List ℕ → ℕ → DtcRecordNext → Type 0
 nextPlace s at DtcRecordNext.Nothing = Unit {0}
 nextPlace s at (DtcRecordNext.Record c after) = Onwards s at wireSize after
 nextPlace s at (DtcRecordNext.Refused e) = Unit {0}
 
+-- the answer r at a position of the message s is the paper's about the rest from there
 pub record NextRight (s : List ℕ) (at : ℕ) (r : DtcRecordNext) : Type 0 where
   pub paper : nextSaid s r ≡ nextTroubleCode (drop at s)
   pub place : nextPlace s at r
 
 -- ---- fields of one byte
+-- the answer r at a position of the message s is a value with the byte that stands there; the next field begins one byte on
 abbrev pub OneByte : (A : Type 0) → (A → ℕ) → List ℕ → ℕ → Seen A → Type 0
 OneByte A byteOf s at r = Right A ℕ byteOf oneByteField (λ (a : A) (after : ℕ). Onwards s at 1 after) s at r
 
@@ -122,5 +131,5 @@ abbrev pub seenNumber : DtcStoredDataRecordNumberRead → Seen DtcStoredDataReco
 seenNumber (DtcStoredDataRecordNumberRead.Accepted n after) = found n after
 seenNumber (DtcStoredDataRecordNumberRead.Refused e) = stopped e
 
-abbrev pub NumberRight : List ℕ → ℕ → DtcStoredDataRecordNumberRead → Type 0
-NumberRight s at r = OneByte DtcStoredDataRecordNumber (λ (n : DtcStoredDataRecordNumber). n .0) s at (seenNumber r)
+abbrev pub RecordNumberRight : List ℕ → ℕ → DtcStoredDataRecordNumberRead → Type 0
+RecordNumberRight s at r = OneByte DtcStoredDataRecordNumber (λ (n : DtcStoredDataRecordNumber). n .0) s at (seenNumber r)

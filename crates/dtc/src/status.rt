@@ -7,9 +7,7 @@ use wire::refusal::Refusal;
 use wire::write::WriteAnswer;
 use wire::write::put_byte;
 ghost use mathlib.Core.Path.{_≡_};
-ghost use mathlib.Core.Bool.{Bool};
 ghost use mathlib.Core.List.{[], _∷_};
-ghost use lib.Dec.{eqb};
 ghost use lib.Bits.{bitAnd, bitOr};
 ghost use Rattle.paper.specs.Answer.{accepted};
 ghost use Rattle.paper.specs.TroubleCode.{troubleCode, wireSize, allCodes, numberOf, fromNumber, troubleCodeBytes};
@@ -20,7 +18,9 @@ ghost use Rattle.paper.specs.TroubleCode.{dtcClass, maintenanceOnly, checkAtNex
 ghost use Rattle.paper.specs.TroubleCode.{groupOf, formatOf, reservedRecordNumber};
 ghost use Rattle.wire.specs.Writing.{Wrote};
 ghost use Rattle.wire.specs.Reading.{refusalIn};
-ghost use Rattle.dtc.specs.Status.{codeOf, numberSaid, sameCode, seenRecord, RecordRight, NextRight, seenStatus, StatusRight, seenSeverity, SeverityRight, groupByte, groupName, seenGroup, GroupRight, formatByte, formatName, seenNumber, NumberRight};
+ghost use Rattle.dtc.specs.Status.{codeOf, numberSaid, sameCode, seenRecord, RecordRight, NextRight};
+ghost use Rattle.dtc.specs.Status.{StatusRight, SeverityRight, RecordNumberRight};
+ghost use Rattle.dtc.specs.Status.{groupByte, groupName, GroupRight, formatByte, formatName};
 
 // ---- The trouble code.
 
@@ -44,7 +44,8 @@ pub enum DtcRecordRead {
 }
 
 impl DtcRecordRead {
-    pub fn refusal(self) -> Refusal
+    // The refusal; of a record that was accepted there is none, and WrongFormat stands in.
+    fn refusal(self) -> Refusal
         ensures { λ r. ⌜ r ≡ refusalIn (seenRecord self) ⌝ }
     {
         match self {
@@ -170,10 +171,11 @@ impl DtcRecord {
         if s.len() <= at {
             return DtcRecordNext::Nothing;
         }
-        match DtcRecord::decode(s, at) {
-            DtcRecordRead::Accepted(code, next) => DtcRecordNext::Record(code, next),
-            DtcRecordRead::Refused(e) => DtcRecordNext::Refused(e),
-        }
+        let c = DtcRecord::decode(s, at);
+        let DtcRecordRead::Accepted(code, next) = c else {
+            return DtcRecordNext::Refused(c.refusal());
+        };
+        DtcRecordNext::Record(code, next)
     }
 
     pub fn encode(self, out: &mut [u8]) -> WriteAnswer
@@ -202,17 +204,6 @@ pub struct DtcStatusMask {
 pub enum DtcStatusMaskRead {
     Accepted(DtcStatusMask, usize),
     Refused(Refusal),
-}
-
-impl DtcStatusMaskRead {
-    pub fn refusal(self) -> Refusal
-        ensures { λ r. ⌜ r ≡ refusalIn (seenStatus self) ⌝ }
-    {
-        match self {
-            DtcStatusMaskRead::Refused(e) => e,
-            DtcStatusMaskRead::Accepted(_, _) => Refusal::WrongFormat,
-        }
-    }
 }
 
 impl DtcStatusMask {
@@ -265,7 +256,6 @@ impl DtcStatusMask {
         self.bits / named.bits % 2 == 1
     }
 
-    // A test failed in this operation cycle.
     pub fn test_failed_this_operation_cycle(self) -> bool
         ensures { λ r. ⌜ r ≡ testFailedThisOperationCycle (self .bits) ⌝ }
     {
@@ -305,7 +295,6 @@ impl DtcStatusMask {
         self.bits / named.bits % 2 == 1
     }
 
-    // No test has been completed in this operation cycle.
     pub fn test_not_completed_this_operation_cycle(self) -> bool
         ensures { λ r. ⌜ r ≡ testNotCompletedThisOperationCycle (self .bits) ⌝ }
     {
@@ -313,7 +302,6 @@ impl DtcStatusMask {
         self.bits / named.bits % 2 == 1
     }
 
-    // A warning indicator is asked for.
     pub fn warning_indicator_requested(self) -> bool
         ensures { λ r. ⌜ r ≡ warningIndicatorRequested (self .bits) ⌝ }
     {
@@ -377,17 +365,6 @@ pub enum DtcSeverityMaskRead {
     Refused(Refusal),
 }
 
-impl DtcSeverityMaskRead {
-    pub fn refusal(self) -> Refusal
-        ensures { λ r. ⌜ r ≡ refusalIn (seenSeverity self) ⌝ }
-    {
-        match self {
-            DtcSeverityMaskRead::Refused(e) => e,
-            DtcSeverityMaskRead::Accepted(_, _) => Refusal::WrongFormat,
-        }
-    }
-}
-
 impl DtcSeverityMask {
     pub const DtcClass0: DtcSeverityMask = DtcSeverityMask { bits: 0x01 };
 
@@ -430,7 +407,6 @@ impl DtcSeverityMask {
         self.bits
     }
 
-    // Class 0.
     pub fn dtc_class_0(self) -> bool
         ensures { λ r. ⌜ r ≡ dtcClass 0 (self .bits) ⌝ }
     {
@@ -438,7 +414,6 @@ impl DtcSeverityMask {
         self.bits / named.bits % 2 == 1
     }
 
-    // Class 1.
     pub fn dtc_class_1(self) -> bool
         ensures { λ r. ⌜ r ≡ dtcClass 1 (self .bits) ⌝ }
     {
@@ -446,7 +421,6 @@ impl DtcSeverityMask {
         self.bits / named.bits % 2 == 1
     }
 
-    // Class 2.
     pub fn dtc_class_2(self) -> bool
         ensures { λ r. ⌜ r ≡ dtcClass 2 (self .bits) ⌝ }
     {
@@ -454,7 +428,6 @@ impl DtcSeverityMask {
         self.bits / named.bits % 2 == 1
     }
 
-    // Class 3.
     pub fn dtc_class_3(self) -> bool
         ensures { λ r. ⌜ r ≡ dtcClass 3 (self .bits) ⌝ }
     {
@@ -462,7 +435,6 @@ impl DtcSeverityMask {
         self.bits / named.bits % 2 == 1
     }
 
-    // Class 4.
     pub fn dtc_class_4(self) -> bool
         ensures { λ r. ⌜ r ≡ dtcClass 4 (self .bits) ⌝ }
     {
@@ -478,7 +450,6 @@ impl DtcSeverityMask {
         self.bits / named.bits % 2 == 1
     }
 
-    // To be checked at the next halt.
     pub fn check_at_next_halt(self) -> bool
         ensures { λ r. ⌜ r ≡ checkAtNextHalt (self .bits) ⌝ }
     {
@@ -486,7 +457,6 @@ impl DtcSeverityMask {
         self.bits / named.bits % 2 == 1
     }
 
-    // To be checked at once.
     pub fn check_immediately(self) -> bool
         ensures { λ r. ⌜ r ≡ checkImmediately (self .bits) ⌝ }
     {
@@ -558,17 +528,6 @@ pub enum FunctionalGroupIdentifier {
 pub enum FunctionalGroupIdentifierRead {
     Accepted(FunctionalGroupIdentifier, usize),
     Refused(Refusal),
-}
-
-impl FunctionalGroupIdentifierRead {
-    pub fn refusal(self) -> Refusal
-        ensures { λ r. ⌜ r ≡ refusalIn (seenGroup self) ⌝ }
-    {
-        match self {
-            FunctionalGroupIdentifierRead::Refused(e) => e,
-            FunctionalGroupIdentifierRead::Accepted(_, _) => Refusal::WrongFormat,
-        }
-    }
 }
 
 impl FunctionalGroupIdentifier {
@@ -679,17 +638,6 @@ pub enum DtcStoredDataRecordNumberRead {
     Refused(Refusal),
 }
 
-impl DtcStoredDataRecordNumberRead {
-    pub fn refusal(self) -> Refusal
-        ensures { λ r. ⌜ r ≡ refusalIn (seenNumber self) ⌝ }
-    {
-        match self {
-            DtcStoredDataRecordNumberRead::Refused(e) => e,
-            DtcStoredDataRecordNumberRead::Accepted(_, _) => Refusal::WrongFormat,
-        }
-    }
-}
-
 impl DtcStoredDataRecordNumber {
     pub fn new(record_number: u8) -> DtcStoredDataRecordNumber
         ensures { λ r. ⌜ r .0 ≡ «record_number» ⌝ }
@@ -712,7 +660,7 @@ impl DtcStoredDataRecordNumber {
 
     // An empty rest is refusal 1.
     pub fn decode(s: &[u8], at: usize) -> DtcStoredDataRecordNumberRead
-        ensures { λ r. ⌜ NumberRight (now (s .entry)) at r ⌝ }
+        ensures { λ r. ⌜ RecordNumberRight (now (s .entry)) at r ⌝ }
     {
         let b = byte_at(s, at);
         let ByteAnswer::Accepted(number, next) = b else {
