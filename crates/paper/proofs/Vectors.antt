@@ -83,11 +83,12 @@ writing : (let m = request deleteFile (0x61 ∷ []) 7 8 9 in
 unfolding over toBytes inRange begins firstRow charLength validFrom validUpTo isUtf8 withCount requestAt requestBytes writeRequest responseAt responseBytes asRead writeResponse
 writing = (refl, refl, refl, refl, refl, refl)
 
--- the desk check: bytes left over before the sizes, sizes of AddFile only, equal sizes pass
-abbrev sized : ℕ → ℕ → List ℕ → List ℕ
-sized x y t = 0x01 ∷ 0x00 ∷ 0x01 ∷ 0x61 ∷ 0x11 ∷ 0x01 ∷ x ∷ y ∷ t
+-- the desk check: the reader's refusals, then bytes left over, then the sizes of kinds 1, 3 and 6; equal and smaller compressed sizes pass, and so do the other kinds
+abbrev sized : ℕ → ℕ → ℕ → List ℕ → List ℕ
+sized mode x y t = mode ∷ 0x00 ∷ 0x01 ∷ 0x61 ∷ 0x11 ∷ 0x01 ∷ x ∷ y ∷ t
 
-desk : (deskCheck (sized 1 2 (0x5A ∷ [])) ≡ refused (refusal 9 1 0)) × (deskCheck (sized 1 2 []) ≡ refused (refusal 8 0 0)) × (deskCheck (sized 2 2 []) ≡ accepted tt)
-    × (deskCheck (0x04 ∷ 0x00 ∷ 0x00 ∷ 0x11 ∷ []) ≡ accepted tt) × (deskCheck [] ≡ refused (refusal 1 1 0))
+desk : (map deskCheck ([] ∷ sized 0x01 1 2 (0x5A ∷ []) ∷ []) ≡ refused (refusal 1 1 0) ∷ refused (refusal 9 1 0) ∷ [])
+    × (map deskCheck (sized 0x01 1 2 [] ∷ sized 0x03 1 2 [] ∷ sized 0x06 1 2 [] ∷ []) ≡ replicate 3 (refused (refusal 8 0 0)))
+    × (map deskCheck (sized 0x01 2 2 [] ∷ sized 0x01 2 1 [] ∷ (0x02 ∷ 0x00 ∷ 0x00 ∷ []) ∷ (0x04 ∷ 0x00 ∷ 0x00 ∷ 0x11 ∷ []) ∷ (0x05 ∷ 0x00 ∷ 0x00 ∷ []) ∷ []) ≡ replicate 5 (accepted tt))
 unfolding deskCheck _>>=_ give refuse ofBytes inRange begins firstRow charLength validFrom validUpTo isUtf8 oneOf known part byte headed counted name numbers sizeGroup readRequest
-desk = (refl, refl, refl, refl, refl)
+desk = (refl, refl, refl)
