@@ -10,8 +10,9 @@ use Rattle.paper.specs.Bytes.{ofBytes, toBytes}
 use Rattle.paper.specs.Utf8.{inRange, begins, firstRow, charLength, validFrom, validUpTo, isUtf8}
 use Rattle.paper.specs.Sizes.{fit, firstFit, width, less, equal, greater, compare}
 use Rattle.paper.specs.Kind.{oneOf, addFile, deleteFile, replaceFile, readFile, readDir, resumeFile, modeOf, kinds, known}
-use Rattle.paper.specs.Field.{part, byte, headed, counted, name, numbers, sizeGroup, withCount}
-use Rattle.paper.specs.Request.{request, readRequest, requestAt, requestBytes, writeRequest}
+use Rattle.paper.specs.Field.{part, byte, number, headed, counted, name, numbers, sizeGroup, withCount, laid, sizesAt}
+use Rattle.paper.specs.Rewriting.{rewriting, rewrittenInto}
+use Rattle.paper.specs.Request.{request, readRequest, requestAt, requestBytes, writeRequest, rewriteRequest}
 use Rattle.paper.specs.Response.{response, readResponse, responseAt, responseBytes, writeResponse, asRead}
 use Rattle.paper.specs.RoutineControl.{startRoutine, stopRoutine, requestRoutineResults, byteOf, subFunctions, knownSub, routineBytes, wholeRest, readRoutineRequest, readRoutineResponse, routineRequestBytes, routineResponseBytes}
 use Rattle.paper.specs.Desk.{deskCheck}
@@ -39,12 +40,20 @@ widths-judged-late : (readRequest (wide 33) ≡ refused (refusal 1 35 34)) × (r
 unfolding _>>=_ give refuse ofBytes inRange begins firstRow charLength validFrom validUpTo isUtf8 oneOf known part byte headed counted name numbers sizeGroup readRequest
 widths-judged-late = (refl, refl)
 
--- in a response a mode is judged at once, a width has two bytes, and block-length bytes are handed on as sent
-responses : (readResponse (0x07 ∷ []) ≡ refused (refusal 3 7 0))
-    × (readResponse (0x04 ∷ 0x02 ∷ 0x00 ∷ 0x10 ∷ 0x11 ∷ 0x00 ∷ 0x02 ∷ 0x00 ∷ 0xFF ∷ 0x01 ∷ 0x00 ∷ 0x5A ∷ []) ≡ accepted (response readFile (0x00 ∷ 0x10 ∷ []) 0x11 255 256 0 leaving (0x5A ∷ [])))
-    × (readResponse (0x05 ∷ 0x00 ∷ 0x00 ∷ 0x01 ∷ 0x00 ∷ []) ≡ refused (refusal 1 258 2))
+-- each kind of response: block-length bytes are handed on as sent, a width has two bytes, a position eight; what follows is the tail
+responses : (readResponse (0x01 ∷ 0x02 ∷ 0x00 ∷ 0x10 ∷ 0x11 ∷ 0x5A ∷ []) ≡ accepted (response addFile (0x00 ∷ 0x10 ∷ []) 0x11 0 0 0 leaving (0x5A ∷ [])))
+    × (readResponse (0x02 ∷ 0x5A ∷ []) ≡ accepted (response deleteFile [] 0 0 0 0 leaving (0x5A ∷ [])))
+    × (readResponse (0x03 ∷ 0x00 ∷ 0x11 ∷ []) ≡ accepted (response replaceFile [] 0x11 0 0 0 leaving []))
+    × (readResponse (0x04 ∷ 0x01 ∷ 0x10 ∷ 0x11 ∷ 0x00 ∷ 0x02 ∷ 0x00 ∷ 0xFF ∷ 0x01 ∷ 0x00 ∷ 0x5A ∷ []) ≡ accepted (response readFile (0x10 ∷ []) 0x11 255 256 0 leaving (0x5A ∷ [])))
+    × (readResponse (0x05 ∷ 0x00 ∷ 0x11 ∷ 0x00 ∷ 0x02 ∷ 0x01 ∷ 0x00 ∷ []) ≡ accepted (response readDir [] 0x11 256 0 0 leaving []))
+    × (readResponse (0x06 ∷ 0x00 ∷ 0x11 ∷ 0x00 ∷ 0x00 ∷ 0x00 ∷ 0x00 ∷ 0x00 ∷ 0x00 ∷ 0x01 ∷ 0x00 ∷ []) ≡ accepted (response resumeFile [] 0x11 0 0 256 leaving []))
+unfolding _>>=_ give refuse ofBytes oneOf known part byte number headed counted numbers sizeGroup readResponse
+responses = (refl, refl, refl, refl, refl, refl)
+
+-- an unknown mode is refused at once, and "needed" counts both bytes of the width
+responses-refused : (readResponse (0x07 ∷ []) ≡ refused (refusal 3 7 0)) × (readResponse (0x05 ∷ 0x00 ∷ 0x00 ∷ 0x01 ∷ 0x00 ∷ []) ≡ refused (refusal 1 258 2))
 unfolding _>>=_ give refuse ofBytes oneOf known part byte headed counted numbers sizeGroup readResponse
-responses = (refl, refl, refl)
+responses-refused = (refl, refl)
 
 -- each mode and each sub-function, in order, and the bytes on both sides of them
 modes : (map modeOf kinds ≡ 1 ∷ 2 ∷ 3 ∷ 4 ∷ 5 ∷ 6 ∷ [])
@@ -82,6 +91,14 @@ writing : (let m = request deleteFile (0x61 ∷ []) 7 8 9 in
     × (writeResponse (response addFile (replicate 256 0) 0 0 0 0) ≡ refused (refusal 2 0 0)))
 unfolding over toBytes inRange begins firstRow charLength validFrom validUpTo isUtf8 withCount requestAt requestBytes writeRequest responseAt responseBytes asRead writeResponse
 writing = (refl, refl, refl, refl, refl, refl)
+
+-- rewriting into a buffer: sizes at width 2, with a byte after them, are written at width 1, and the byte is the tail; too little room, and a message that can't be read, change nothing
+into : (let s : List ℕ = 0x01 ∷ 0x00 ∷ 0x00 ∷ 0x11 ∷ 0x02 ∷ 0x00 ∷ 0x01 ∷ 0x00 ∷ 0x02 ∷ 0x5A ∷ [] in
+    (rewrittenInto (rewriteRequest s) (replicate 8 9) ≡ record { answer = accepted (7 leaving (0x5A ∷ [])); contents = 0x01 ∷ 0x00 ∷ 0x00 ∷ 0x11 ∷ 0x01 ∷ 0x01 ∷ 0x02 ∷ 9 ∷ [] })
+    × (rewrittenInto (rewriteRequest s) (replicate 6 9) ≡ record { answer = refused (refusal 7 7 6); contents = replicate 6 9 })
+    × (rewrittenInto (rewriteRequest (0x01 ∷ [])) (replicate 6 9) ≡ record { answer = refused (refusal 1 2 0); contents = replicate 6 9 }))
+unfolding _>>=_ give refuse over ofBytes toBytes inRange begins firstRow charLength validFrom validUpTo isUtf8 fit firstFit width oneOf known part byte headed counted name numbers sizeGroup withCount laid sizesAt rewriting readRequest requestAt requestBytes writeRequest rewriteRequest
+into = (refl, refl, refl)
 
 -- the desk check: the reader's refusals, then bytes left over, then the sizes of kinds 1, 3 and 6; equal and smaller compressed sizes pass, and so do the other kinds
 abbrev sized : ℕ → ℕ → ℕ → List ℕ → List ℕ
