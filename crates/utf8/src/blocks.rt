@@ -1,15 +1,15 @@
-// UTF-8 in blocks of 64 bytes: whether a byte can stand where it stands is decided by the three before it, so each is judged for itself,
-// with no branch and no early exit, and the compiler can judge many at once. Text of which each byte fits is UTF-8, but for a character that it
-// breaks off at its end.
+// UTF-8 in blocks of bytes: whether a byte can stand where it stands is decided by the three before it, so each is judged for itself,
+// with no branch and no early exit, and the compiler can judge many at once. Text of which each byte fits is UTF-8, but for a character that
+// it breaks off at its end.
 //
-// Of `61 E2 82 AC ED A0`, a letter, the euro sign and the beginning of a surrogate, `fits_after` answers for each byte, as if zeros stood before:
-//     00 00 00 61  true   nothing before it goes on, and 61 begins a character
-//     00 00 61 E2  true   so does E2
-//     00 61 E2 82  true   E2 goes on for one byte or more, and 82 can stand inside a character
-//     61 E2 82 AC  true   E2 goes on for two bytes or more, and so can AC
-//     E2 82 AC ED  true   E2 does not go on for three, as F0 would; and ED begins a character
-//     82 AC ED A0  false  ED goes on, but after it what stands inside ends at 9F
-// A block that ends in `61 E2 82` fits too; `unfinished` answers 2 for it, and the whole characters end two bytes before the block does.
+// Of `61 E2 82 AC ED A0`, a letter, the euro sign and the beginning of a surrogate, `fits_after` answers, as if zeros stood before the text:
+//     00 00 00 61  true   no character goes on, and 61 begins one
+//     00 00 61 E2  true   no character goes on, and E2 begins one
+//     00 61 E2 82  true   that of E2, one before, goes on, and 82 can stand inside it
+//     61 E2 82 AC  true   that of E2, two before, goes on, and AC can stand inside it
+//     E2 82 AC ED  true   E2, three before, would have to be F0 or more to go on; ED begins a character
+//     82 AC ED A0  false  that of ED goes on, but only up to 9F can stand after ED
+// A block that ends in `61 E2 82` fits too: `unfinished` answers 2 for it, and its whole characters end two bytes before it does.
 ghost use mathlib.Core.Path.{_≡_};
 ghost use mathlib.Core.Bool.{true};
 ghost use mathlib.Core.Logic.{_↔_};
@@ -18,6 +18,9 @@ ghost use lib.ListN.{length};
 ghost use Rattle.utf8.specs.Valid.{Valid};
 ghost use Rattle.utf8.specs.Ascii.{Ascii, AsciiStart};
 ghost use Rattle.utf8.specs.Fit.{Fits, AllFit, Fitting, FitStart, unfinishedOf};
+
+// How many bytes a block has: enough that the compiler can judge many at once, few enough that a name has some.
+pub(crate) const BLOCK: usize = 64;
 
 // Whether every byte of s is ASCII, below 0x80; of an empty s too.
 fn all_ascii(s: &[u8]) -> bool
@@ -49,8 +52,8 @@ pub(crate) fn ascii_blocks(s: &[u8], size: usize) -> usize
     at
 }
 
-// Whether d can stand right after a, b and c: inside a character where one of them says that a character goes on, else at the start
-// of one. No branch, so that the compiler can test many bytes at once.
+// Whether d can stand right after a, b and c: inside a character where one of them leads a character that goes on up to d, else at the
+// start of one.
 fn fits_after(a: u8, b: u8, c: u8, d: u8) -> bool
     ensures { λ r. ⌜ (r ≡ true) ↔ Fits a b c d ⌝ }
 {
@@ -86,16 +89,16 @@ fn block_fits(s: &[u8]) -> bool
     all_fit(s)
 }
 
-// Up to where the bytes of s fit, by blocks of 64: up to `from` they do. It ends before the first block of which a byte does not fit,
+// Up to where the bytes of s fit, by blocks: up to `from` they do. It ends before the first block of which a byte does not fit,
 // or where less than a block is left.
 fn fitting_blocks(s: &[u8], from: usize) -> usize
     requires { ⌜ Fitting (now s) from ⌝ }
     ensures { λ r. ⌜ Fitting (now (s .entry)) r ⌝ }
 {
     let mut at = from;
-    while 64 <= s.len() - at {
+    while BLOCK <= s.len() - at {
         let start = at - 3;
-        let end = at + 64;
+        let end = at + BLOCK;
         if !block_fits(&s[start..end]) {
             return at;
         }
@@ -117,7 +120,7 @@ fn fitting_start(s: &[u8], ascii: usize) -> usize
     requires { ⌜ AsciiStart (now s) ascii × (3 ≤ length (now s)) ⌝ }
     ensures { λ r. ⌜ (0 < r → Fitting (now (s .entry)) r) ⌝ }
 {
-    if 64 <= ascii {
+    if BLOCK <= ascii {
         return ascii;
     }
     if start_fits(s[0], s[1], s[2]) {
@@ -147,8 +150,8 @@ fn unfinished(a: u8, b: u8, c: u8) -> usize
 pub(crate) fn by_blocks(s: &[u8]) -> usize
     ensures { λ r. ⌜ Valid (now (s .entry)) r ⌝ }
 {
-    let ascii = ascii_blocks(s, 64);
-    if s.len() - ascii < 64 {
+    let ascii = ascii_blocks(s, BLOCK);
+    if s.len() - ascii < BLOCK {
         return ascii;
     }
     let start = fitting_start(s, ascii);

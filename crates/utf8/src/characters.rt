@@ -1,9 +1,9 @@
 // UTF-8 character by character: the first byte says how many follow it and which the second may be; those after it are from 0x80 to 0xBF.
 //
 // Of `61 62 E2 82 AC ED A0 80`, two letters, the euro sign and a surrogate, which is no character, `by_characters` answers 5:
-//     at 0  61 62 ..     `step` answers 2, a run of ASCII
-//     at 2  E2 82 AC ..  `step` answers 3: E2 leads three bytes, and both that follow are from 0x80 to 0xBF
-//     at 5  ED A0 80     `step` answers 0: after ED the second byte ends at 0x9F, so that no character begins here
+//     at 0  61 62 ..     `step` answers 2: a run of ASCII
+//     at 2  E2 82 AC ..  `step` answers 3: E2 leads three bytes, and 82 and AC are from 0x80 to 0xBF
+//     at 5  ED A0 80     `step` answers 0: after ED the second byte is at most 0x9F
 use crate::blocks::ascii_blocks;
 ghost use mathlib.Core.Path.{_≡_};
 ghost use mathlib.Core.List.{[], _∷_};

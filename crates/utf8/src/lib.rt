@@ -3,6 +3,7 @@
 mod blocks;
 mod characters;
 
+use crate::blocks::BLOCK;
 use crate::blocks::by_blocks;
 use crate::characters::by_characters;
 ghost use mathlib.Core.Path.{_≡_};
@@ -20,7 +21,7 @@ pub fn valid_up_to(name: &[u8]) -> usize
 pub fn is_utf8(name: &[u8]) -> bool
     ensures { λ r. ⌜ r ≡ isUtf8 (now (name .entry)) ⌝ }
 {
-    if name.len() < 64 {
+    if name.len() < BLOCK {
         return by_characters(name) == name.len();
     }
     valid_up_to(name) == name.len()

@@ -47,7 +47,7 @@ loop-less c = search needs
 
 loop-again : tie.Need-loop-again Inv-loop μ-loop
 loop-again c =
-    more-fits 64 (c .before .before .before .before .loop .inv) (omega arith) (c .before .block-fits .ensures .0 (not-false (c .before .block-fits .result) (c .if1 .left)))
+    more-fits _ (c .before .before .before .before .loop .inv) (omega arith) (c .before .block-fits .ensures .0 (not-false (c .before .block-fits .result) (c .if1 .left)))
 
 returns-2 : tie.Need-returns-2 Inv-loop μ-loop
 returns-2 c = c .before .loop .inv
