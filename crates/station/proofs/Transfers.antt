@@ -26,7 +26,7 @@ use Rattle.request_file_transfer_response.specs.declared.read.RequestFileTransf
 use Rattle.request_file_transfer_response.specs.declared.read.ResponseAnswer.{ResponseAnswer}
 use Rattle.station.specs.Records.{requestRecord, blockBegins, responseRecord, writtenRecord, withoutTail, RewroteRecord}
 use Rattle.station.specs.Flat.{acceptedRequest, flatRequest, acceptedResponse, flatResponse, flatRewrite}
-use Rattle.station.specs.Handed.{whereKnown, requestHanded, responseHanded}
+use Rattle.station.specs.Handed.{whereKnown, halves, requestHanded, responseHanded}
 use Rattle.station.specs.declared.records.WrittenRecord.{WrittenRecord}
 
 -- ---- reading
@@ -84,24 +84,28 @@ response-flat s (ResponseAnswer.Refused e) right = ap (responseRecord (length s)
 
 -- ---- writing
 -- a request of a byte that is a kind, with a format that is the byte's
-pub request-known : (b : ℕ) {k : Kind} {f g : ℕ} → accepted k ≡ known b → g ≡ f → (n : List ℕ) (x y : ℕ) → requestHanded b n f x y ≡ writeRequest (request k n g x y)
+pub request-known : (b : ℕ) {k : Kind} {f g : ℕ} → accepted k ≡ known b → g ≡ f → (n : List ℕ) (xh xl yh yl : ℕ)
+    → requestHanded b n f xh xl yh yl ≡ writeRequest (request k n g (halves xh xl) (halves yh yl))
 unfolding requestHanded
-request-known b e same n x y = sym (ap₂ (λ (a : Answer Kind) (f : ℕ). whereKnown a (λ (k : Kind). writeRequest (request k n f x y))) e same)
+request-known b e same n xh xl yh yl =
+    sym (ap₂ (λ (a : Answer Kind) (f : ℕ). whereKnown a (λ (k : Kind). writeRequest (request k n f (halves xh xl) (halves yh yl)))) e same)
 
 -- a request of a byte that is none
-pub request-unknown : (b : ℕ) {e : Refusal} → refused e ≡ known b → (n : List ℕ) (f x y : ℕ) → requestHanded b n f x y ≡ refused e
+pub request-unknown : (b : ℕ) {e : Refusal} → refused e ≡ known b → (n : List ℕ) (f xh xl yh yl : ℕ) → requestHanded b n f xh xl yh yl ≡ refused e
 unfolding requestHanded
-request-unknown b e n f x y = sym (ap (λ (a : Answer Kind). whereKnown a (λ (k : Kind). writeRequest (request k n f x y))) e)
+request-unknown b e n f xh xl yh yl = sym (ap (λ (a : Answer Kind). whereKnown a (λ (k : Kind). writeRequest (request k n f (halves xh xl) (halves yh yl)))) e)
 
 -- a response of a byte that is a kind, with a format that is the byte's
-pub response-known : (b : ℕ) {k : Kind} {f g : ℕ} → accepted k ≡ known b → g ≡ f → (n : List ℕ) (x y p : ℕ) → responseHanded b n f x y p ≡ writeResponse (response k n g x y p)
+pub response-known : (b : ℕ) {k : Kind} {f g : ℕ} → accepted k ≡ known b → g ≡ f → (n : List ℕ) (xh xl yh yl p : ℕ)
+    → responseHanded b n f xh xl yh yl p ≡ writeResponse (response k n g (halves xh xl) (halves yh yl) p)
 unfolding responseHanded
-response-known b e same n x y p = sym (ap₂ (λ (a : Answer Kind) (f : ℕ). whereKnown a (λ (k : Kind). writeResponse (response k n f x y p))) e same)
+response-known b e same n xh xl yh yl p =
+    sym (ap₂ (λ (a : Answer Kind) (f : ℕ). whereKnown a (λ (k : Kind). writeResponse (response k n f (halves xh xl) (halves yh yl) p))) e same)
 
 -- a response of a byte that is none
-pub response-unknown : (b : ℕ) {e : Refusal} → refused e ≡ known b → (n : List ℕ) (f x y p : ℕ) → responseHanded b n f x y p ≡ refused e
+pub response-unknown : (b : ℕ) {e : Refusal} → refused e ≡ known b → (n : List ℕ) (f xh xl yh yl p : ℕ) → responseHanded b n f xh xl yh yl p ≡ refused e
 unfolding responseHanded
-response-unknown b e n f x y p = sym (ap (λ (a : Answer Kind). whereKnown a (λ (k : Kind). writeResponse (response k n f x y p))) e)
+response-unknown b e n f xh xl yh yl p = sym (ap (λ (a : Answer Kind). whereKnown a (λ (k : Kind). writeResponse (response k n f (halves xh xl) (halves yh yl) p))) e)
 
 -- ---- rewriting
 -- the record of a rewriter's answer leaves the tail out

@@ -78,11 +78,13 @@ pub write-response-determined : (κs : Lfts 2) (a : ArgsD write-response.signatu
     → write-response-reads.Post κs a r x → write-response-reads.Post κs a s y → (r ≡ s) × (now (x .1 .1 .1 .1 .1 .1 .1 .1 .0) ≡ now (y .1 .1 .1 .1 .1 .1 .1 .1 .0))
 write-response-determined κs a x y r s p q = (p .0 ∙ sym (q .0), p .1 ∙ sym (q .1))
 
-pub write-routine-request-determined : (κs : Lfts 2) (a : ArgsD write-routine-request.signature κs) (x y : AtExit (endedOf 2 write-routine-request-kinds.ps write-routine-request-kinds.r) κs) (r s : WrittenRecord)
+pub write-routine-request-determined : (κs : Lfts 2) (a : ArgsD write-routine-request.signature κs)
+    (x y : AtExit (endedOf 2 write-routine-request-kinds.ps write-routine-request-kinds.r) κs) (r s : WrittenRecord)
     → write-routine-request-reads.Post κs a r x → write-routine-request-reads.Post κs a s y → (r ≡ s) × (now (x .1 .1 .1 .1 .0) ≡ now (y .1 .1 .1 .1 .0))
 write-routine-request-determined κs a x y r s p q = (p .0 ∙ sym (q .0), p .1 ∙ sym (q .1))
 
-pub write-routine-response-determined : (κs : Lfts 2) (a : ArgsD write-routine-response.signature κs) (x y : AtExit (endedOf 2 write-routine-response-kinds.ps write-routine-response-kinds.r) κs) (r s : WrittenRecord)
+pub write-routine-response-determined : (κs : Lfts 2) (a : ArgsD write-routine-response.signature κs)
+    (x y : AtExit (endedOf 2 write-routine-response-kinds.ps write-routine-response-kinds.r) κs) (r s : WrittenRecord)
     → write-routine-response-reads.Post κs a r x → write-routine-response-reads.Post κs a s y → (r ≡ s) × (now (x .1 .1 .1 .0) ≡ now (y .1 .1 .1 .0))
 write-routine-response-determined κs a x y r s p q = (p .0 ∙ sym (q .0), p .1 ∙ sym (q .1))
 

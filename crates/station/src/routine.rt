@@ -13,12 +13,13 @@ use routine_control::response::read_routine_response;
 use routine_control::response::write_routine_response;
 use routine_control::sub_function::RoutineControlSubFunction;
 use routine_control::sub_function::SubFunctionAnswer;
+use wire::place::Place;
 use wire::refusal::Refusal;
 ghost use mathlib.Core.Path.{_≡_};
 ghost use Rattle.paper.specs.RoutineControl.{readRoutineRequest, readRoutineResponse};
 ghost use Rattle.wire.specs.Refusals.{row};
 ghost use Rattle.station.specs.Records.{refusedRoutine, routineRequestRecord, routineResponseRecord, WroteRecord};
-ghost use Rattle.station.specs.Flat.{flatRoutineRequest, flatRoutineResponse, acceptedRoutineRequest, acceptedRoutineResponse, bitOf};
+ghost use Rattle.station.specs.Flat.{bitOf, acceptedRoutine, acceptedRoutineRequest, acceptedRoutineResponse, flatRoutineRequest, flatRoutineResponse};
 ghost use Rattle.station.specs.Handed.{routineRequestHanded, routineResponseHanded};
 
 fn refused_read(e: Refusal) -> RoutineRecord
@@ -42,21 +43,37 @@ fn bit(b: bool) -> u64
     if b { 1 } else { 0 }
 }
 
-fn accepted_request(q: RoutineControlRequest) -> RoutineRecord
-    ensures { λ r. ⌜ r ≡ acceptedRoutineRequest q ⌝ }
+// What a request and a response have in common, and whether to suppress, which a response never says.
+fn accepted_message(
+    suppress: bool,
+    sub_function: RoutineControlSubFunction,
+    identifier: u16,
+    place: Place,
+) -> RoutineRecord
+    ensures { λ r. ⌜ r ≡ acceptedRoutine suppress «sub_function» identifier place ⌝ }
 {
-    let sub_function = q.sub_function;
-    let place = q.option_record;
     RoutineRecord {
         number: 0,
         first: 0,
         second: 0,
-        suppress: bit(q.suppress_positive_response),
+        suppress: bit(suppress),
         sub_function: sub_function.value() as u64,
-        identifier: q.routine_id as u64,
+        identifier: identifier as u64,
         start: place.start as u64,
         len: place.len as u64,
     }
+}
+
+fn accepted_request(q: RoutineControlRequest) -> RoutineRecord
+    ensures { λ r. ⌜ r ≡ acceptedRoutineRequest q ⌝ }
+{
+    let sub_function = q.sub_function;
+    accepted_message(
+        q.suppress_positive_response,
+        sub_function,
+        q.routine_id,
+        q.option_record,
+    )
 }
 
 fn flat_request(a: RoutineControlRequestAnswer) -> RoutineRecord
@@ -79,17 +96,7 @@ fn accepted_response(q: RoutineControlResponse) -> RoutineRecord
     ensures { λ r. ⌜ r ≡ acceptedRoutineResponse q ⌝ }
 {
     let sub_function = q.sub_function;
-    let place = q.status_record;
-    RoutineRecord {
-        number: 0,
-        first: 0,
-        second: 0,
-        suppress: 0,
-        sub_function: sub_function.value() as u64,
-        identifier: q.routine_id as u64,
-        start: place.start as u64,
-        len: place.len as u64,
-    }
+    accepted_message(false, sub_function, q.routine_id, q.status_record)
 }
 
 fn flat_response(a: RoutineControlResponseAnswer) -> RoutineRecord

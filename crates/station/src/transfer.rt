@@ -23,10 +23,10 @@ use request_file_transfer_response::read::ResponseAnswer;
 use request_file_transfer_response::read::read_response;
 use request_file_transfer_response::rewrite::rewrite_response;
 use request_file_transfer_response::write::write_response;
+use wire::place::Place;
 use wire::refusal::Refusal;
 use wire::size::Size;
 ghost use mathlib.Core.Path.{_≡_};
-ghost use Prim.Native.Nat.{_+_, _*_, _^_};
 ghost use lib.ListN.{length};
 ghost use Rattle.paper.specs.Answer.{refused};
 ghost use Rattle.paper.specs.Request.{readRequest, rewriteRequest};
@@ -35,7 +35,7 @@ ghost use Rattle.paper.specs.Desk.{deskCheck};
 ghost use Rattle.wire.specs.Refusals.{row};
 ghost use Rattle.desk_check.specs.Desk.{deskSaid};
 ghost use Rattle.station.specs.Records.{refusedTransfer, requestRecord, responseRecord, deskRecord, WroteRecord, RewroteRecord};
-ghost use Rattle.station.specs.Flat.{flatRequest, flatResponse, acceptedRequest, acceptedResponse};
+ghost use Rattle.station.specs.Flat.{flatRequest, flatResponse, acceptedMessage, acceptedRequest, acceptedResponse};
 ghost use Rattle.station.specs.Handed.{requestHanded, responseHanded};
 
 fn refused_read(e: Refusal) -> FileTransferRecord
@@ -58,15 +58,18 @@ fn refused_read(e: Refusal) -> FileTransferRecord
     }
 }
 
-fn accepted_request(q: RequestFileTransferRequest, tail: usize) -> FileTransferRecord
-    ensures { λ r. ⌜ r ≡ acceptedRequest q tail ⌝ }
+// What a request and a response have in common, and a position.
+fn accepted_message(
+    kind: FileOperationMode,
+    place: Place,
+    format: DataFormatIdentifier,
+    uncompressed: Size,
+    compressed: Size,
+    position: u64,
+    tail: usize,
+) -> FileTransferRecord
+    ensures { λ r. ⌜ r ≡ acceptedMessage kind place format uncompressed compressed position tail ⌝ }
 {
-    let kind = q.kind;
-    let place = q.file_path_and_name;
-    let format = q.data_format_identifier;
-    let size = q.size;
-    let uncompressed = size.file_size_uncompressed;
-    let compressed = size.file_size_compressed;
     FileTransferRecord {
         number: 0,
         first: 0,
@@ -79,9 +82,24 @@ fn accepted_request(q: RequestFileTransferRequest, tail: usize) -> FileTransferR
         uncompressed_low: uncompressed.low,
         compressed_high: compressed.high,
         compressed_low: compressed.low,
-        position: 0,
+        position,
         tail: tail as u64,
     }
+}
+
+fn accepted_request(q: RequestFileTransferRequest, tail: usize) -> FileTransferRecord
+    ensures { λ r. ⌜ r ≡ acceptedRequest q tail ⌝ }
+{
+    let kind = q.kind;
+    accepted_message(
+        kind,
+        q.file_path_and_name,
+        q.data_format_identifier,
+        q.size.file_size_uncompressed,
+        q.size.file_size_compressed,
+        0,
+        tail,
+    )
 }
 
 fn flat_request(a: RequestAnswer) -> FileTransferRecord
@@ -104,27 +122,15 @@ fn accepted_response(q: RequestFileTransferResponse, tail: usize) -> FileTransfe
     ensures { λ r. ⌜ r ≡ acceptedResponse q tail ⌝ }
 {
     let kind = q.kind;
-    let place = q.max_number_of_block_length;
-    let format = q.data_format_identifier;
-    let size = q.file_size;
-    let uncompressed = size.file_size_uncompressed;
-    let compressed = size.file_size_compressed;
-    let position = q.position;
-    FileTransferRecord {
-        number: 0,
-        first: 0,
-        second: 0,
-        kind: kind.value() as u64,
-        start: place.start as u64,
-        len: place.len as u64,
-        format: format.value() as u64,
-        uncompressed_high: uncompressed.high,
-        uncompressed_low: uncompressed.low,
-        compressed_high: compressed.high,
-        compressed_low: compressed.low,
-        position: position.file_position,
-        tail: tail as u64,
-    }
+    accepted_message(
+        kind,
+        q.max_number_of_block_length,
+        q.data_format_identifier,
+        q.file_size.file_size_uncompressed,
+        q.file_size.file_size_compressed,
+        q.position.file_position,
+        tail,
+    )
 }
 
 fn flat_response(a: ResponseAnswer) -> FileTransferRecord
@@ -154,7 +160,8 @@ pub extern "C" fn skr_write_request(
     compressed_low: u64,
     room: &mut [u8],
 ) -> WrittenRecord
-    ensures { λ r. ⌜ WroteRecord (requestHanded kind (now (name .entry)) format («uncompressed_high» * 2 ^ 64 + «uncompressed_low») («compressed_high» * 2 ^ 64 + «compressed_low»)) (now (room .entry)) r (now (room .exit)) ⌝ }
+    ensures { λ r. ⌜ WroteRecord (requestHanded kind (now (name .entry)) format «uncompressed_high» «uncompressed_low» «compressed_high» «compressed_low»)
+        (now (room .entry)) r (now (room .exit)) ⌝ }
 {
     let k = FileOperationMode::from_byte(kind);
     let ModeAnswer::Accepted(mode) = k else {
@@ -191,7 +198,8 @@ pub extern "C" fn skr_write_response(
     position: u64,
     room: &mut [u8],
 ) -> WrittenRecord
-    ensures { λ r. ⌜ WroteRecord (responseHanded kind (now (block .entry)) format («uncompressed_high» * 2 ^ 64 + «uncompressed_low») («compressed_high» * 2 ^ 64 + «compressed_low») position) (now (room .entry)) r (now (room .exit)) ⌝ }
+    ensures { λ r. ⌜ WroteRecord (responseHanded kind (now (block .entry)) format «uncompressed_high» «uncompressed_low» «compressed_high» «compressed_low» position)
+        (now (room .entry)) r (now (room .exit)) ⌝ }
 {
     let k = FileOperationMode::from_byte(kind);
     let ModeAnswer::Accepted(mode) = k else {
@@ -208,10 +216,10 @@ pub extern "C" fn skr_write_response(
         },
     };
     let identifier = DataFormatIdentifier::from_byte(format);
-    let place = PositionPayload {
+    let position = PositionPayload {
         file_position: position,
     };
-    flat_write(write_response(mode, block, identifier, size, place, room))
+    flat_write(write_response(mode, block, identifier, size, position, room))
 }
 
 #[no_mangle]
