@@ -20,7 +20,8 @@ returns-2 c =
     unread _ (b .before .if1 .left) (left (b .read-request .ensures) (ap seenRequest (c .before .enum-told .given .1)) (c .refusal .ensures))
 
 -- the request was read
-read : (c : tie.After-known-told) → let s = c .before .before .before .before .before .before .args .input .now in RequestRight s (RequestAnswer.Accepted (c .before .a .given .0 .0) (c .before .a .given .0 .1 .0))
+read : (c : tie.After-known-told) → let s = c .before .before .before .before .before .before .args .input .now in
+    RequestRight s (RequestAnswer.Accepted (c .before .a .given .0 .0) (c .before .a .given .0 .1 .0))
 read c = subst (RequestRight _) (c .before .a .given .1) (c .before .before .before .read-request .ensures)
 
 sub-t21 : tie.Need-sub-t21
