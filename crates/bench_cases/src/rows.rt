@@ -170,7 +170,6 @@ pub(crate) fn width_is(high: u64, low: u64, bytes: usize) -> bool
     width_of_both(Size { high: 0, low: 1 }, Size { high, low }) == bytes
 }
 
-// Whether the name check accepts.
 pub(crate) fn name_is(name: &[u8], good: bool) -> bool
     ensures { λ r. ⌜ (r ≡ true) ↔ (isUtf8 (now (name .entry)) ≡ good) ⌝ }
 {

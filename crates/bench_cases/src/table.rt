@@ -14,7 +14,6 @@ use crate::tally::row;
 use file_operation::mode::FileOperationMode;
 use routine_control::sub_function::RoutineControlSubFunction;
 
-// Requests.
 fn request_rows(t: Tally) -> Tally {
     let t = row(
         t,
@@ -99,7 +98,7 @@ fn request_rows(t: Tally) -> Tally {
     )
 }
 
-// Responses, routine messages, and the widths of sizes.
+// Responses and routine messages, then the rows about widths.
 fn response_and_routine_rows(t: Tally) -> Tally {
     let t = row(
         t,
@@ -161,7 +160,6 @@ fn response_and_routine_rows(t: Tally) -> Tally {
     )
 }
 
-// Names and trouble-code numbers.
 fn name_and_number_rows(t: Tally) -> Tally {
     let t = row(t, b"  name C0 80: refused", name_is(b"\xC0\x80", false));
     let t = row(

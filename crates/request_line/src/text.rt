@@ -1,4 +1,5 @@
-// The text of the line: words and decimal numbers in ASCII, ended by a line feed.
+// The text of the line: words and decimal numbers in ASCII, ended by a line feed. Each function writes from the start of `out` and answers
+// how many bytes it wrote. `line_text` lends more room than any line needs, so that no writer of a field refuses: what they answer is not looked at.
 use crate::line::Line;
 use crate::line::Shown;
 use crate::line::line_of;

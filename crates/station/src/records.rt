@@ -41,7 +41,7 @@ pub struct RoutineRecord {
     pub len: u64,
 }
 
-// What was written: how many bytes.
+// How many bytes were written.
 #[repr(C)]
 pub struct WrittenRecord {
     pub number: u64,
@@ -50,7 +50,6 @@ pub struct WrittenRecord {
     pub written: u64,
 }
 
-// The desk's answer.
 #[repr(C)]
 pub struct DeskRecord {
     pub number: u64,
@@ -58,7 +57,6 @@ pub struct DeskRecord {
     pub second: u64,
 }
 
-// A trouble code.
 #[repr(C)]
 pub struct TroubleCodeRecord {
     pub number: u64,
