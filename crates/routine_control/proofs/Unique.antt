@@ -19,8 +19,8 @@ use Rattle.wire.proofs.Refusals.{refusalBack, refusal-back}
 use Rattle.wire.proofs.Unique.{Determined, placeOf, place-back}
 use Rattle.wire.proofs.UniqueWriting.{wrote-once}
 use Rattle.routine_control.specs.SubFunction.{subOf, subSaid, Control, suppressSaid}
-use Rattle.routine_control.specs.Request.{requestSaid, requestPlace, RequestRight}
-use Rattle.routine_control.specs.Response.{responseSaid, responsePlace, ResponseRight}
+use Rattle.routine_control.specs.Request.{requestSaid, requestPlace, RoutineRequestRight}
+use Rattle.routine_control.specs.Response.{responseSaid, responsePlace, RoutineResponseRight}
 use Rattle.routine_control.specs.declared.sub_function.RoutineControlSubFunction.{RoutineControlSubFunction}
 use Rattle.routine_control.specs.declared.sub_function.RoutineControlSubFunction.the-variants.{StartRoutine, StopRoutine, RequestRoutineResults}
 use Rattle.routine_control.specs.declared.sub_function.SubFunctionAnswer.{SubFunctionAnswer}
@@ -42,17 +42,11 @@ use Rattle.routine_control.proofs.sub_function.SuppressablePositiveResp
 use Rattle.routine_control.proofs.sub_function.SuppressablePositiveResponse.from_byte.Reads as suppress-from-byte
 use Rattle.routine_control.proofs.sub_function.SuppressablePositiveResponse.to_byte.Kinds as to-byte-kinds
 use Rattle.routine_control.proofs.sub_function.SuppressablePositiveResponse.to_byte.Reads as to-byte
-use Rattle.routine_control.proofs.sub_function.SuppressableAnswer.refusal.Kinds as suppress-refusal-kinds
-use Rattle.routine_control.proofs.sub_function.SuppressableAnswer.refusal.Reads as suppress-refusal
-use Rattle.routine_control.proofs.request.RoutineControlRequestAnswer.refusal.Kinds as request-refusal-kinds
-use Rattle.routine_control.proofs.request.RoutineControlRequestAnswer.refusal.Reads as request-refusal
 use Rattle.routine_control.proofs.request.read_routine_request.Kinds as read-request-kinds
 use Rattle.routine_control.proofs.request.read_routine_request.Reads as read-request
 use Rattle.routine_control.proofs.request.write_routine_request as write-request
 use Rattle.routine_control.proofs.request.write_routine_request.Kinds as write-request-kinds
 use Rattle.routine_control.proofs.request.write_routine_request.Reads as write-request-reads
-use Rattle.routine_control.proofs.response.RoutineControlResponseAnswer.refusal.Kinds as response-refusal-kinds
-use Rattle.routine_control.proofs.response.RoutineControlResponseAnswer.refusal.Reads as response-refusal
 use Rattle.routine_control.proofs.response.read_routine_response.Kinds as read-response-kinds
 use Rattle.routine_control.proofs.response.read_routine_response.Reads as read-response
 use Rattle.routine_control.proofs.response.write_routine_response as write-response
@@ -113,9 +107,6 @@ suppress-from-byte-determined κs a x y r₁ r₂ p q = sym (suppress-back r₁)
 pub to-byte-determined : Determined 0 to-byte-kinds.ps to-byte-kinds.r to-byte.Post
 to-byte-determined κs a x y r₁ r₂ p q = p ∙ sym q
 
-pub suppress-refusal-determined : Determined 0 suppress-refusal-kinds.ps suppress-refusal-kinds.r suppress-refusal.Post
-suppress-refusal-determined κs a x y r₁ r₂ p q = p ∙ sym q
-
 -- ---- requests
 abbrev requestOf : Bool → ℕ → RoutineControlSubFunction → Place → RoutineControlRequestAnswer
 requestOf suppress identifier f p =
@@ -132,7 +123,7 @@ request-back s (RoutineControlRequestAnswer.Accepted q) (e, h) =
 request-back s (RoutineControlRequestAnswer.Refused e) h = ap RoutineControlRequestAnswer.Refused (refusal-back e)
 
 -- the answer to a message is the paper's, led back
-pub request-is : {s : List ℕ} {r : RoutineControlRequestAnswer} → RequestRight s r → r ≡ requestBack (readRoutineRequest s)
+pub request-is : {s : List ℕ} {r : RoutineControlRequestAnswer} → RoutineRequestRight s r → r ≡ requestBack (readRoutineRequest s)
 request-is {s} {r} h = sym (request-back s r (h .place)) ∙ ap requestBack (h .paper)
 
 pub read-request-determined : Determined 1 read-request-kinds.ps read-request-kinds.r read-request.Post
@@ -142,9 +133,6 @@ read-request-determined κs a x y r₁ r₂ p q = request-is p ∙ sym (request-
 pub write-request-determined : (κs : Lfts 2) (a : ArgsD write-request.signature κs) (x y : AtExit (endedOf 2 write-request-kinds.ps write-request-kinds.r) κs) (r s : WriteAnswer)
     → write-request-reads.Post κs a r x → write-request-reads.Post κs a s y → (r ≡ s) × (now (x .1 .1 .1 .1 .0) ≡ now (y .1 .1 .1 .1 .0))
 write-request-determined κs a x y r s p q = wrote-once p q
-
-pub request-refusal-determined : Determined 0 request-refusal-kinds.ps request-refusal-kinds.r request-refusal.Post
-request-refusal-determined κs a x y r₁ r₂ p q = p ∙ sym q
 
 -- ---- responses
 abbrev responseOf : ℕ → RoutineControlSubFunction → Place → RoutineControlResponseAnswer
@@ -160,7 +148,7 @@ response-back s (RoutineControlResponseAnswer.Accepted q) (e, h) = ap₂ (respon
 response-back s (RoutineControlResponseAnswer.Refused e) h = ap RoutineControlResponseAnswer.Refused (refusal-back e)
 
 -- the answer to a message is the paper's, led back
-pub response-is : {s : List ℕ} {r : RoutineControlResponseAnswer} → ResponseRight s r → r ≡ responseBack (readRoutineResponse s)
+pub response-is : {s : List ℕ} {r : RoutineControlResponseAnswer} → RoutineResponseRight s r → r ≡ responseBack (readRoutineResponse s)
 response-is {s} {r} h = sym (response-back s r (h .place)) ∙ ap responseBack (h .paper)
 
 pub read-response-determined : Determined 1 read-response-kinds.ps read-response-kinds.r read-response.Post
@@ -170,6 +158,3 @@ read-response-determined κs a x y r₁ r₂ p q = response-is p ∙ sym (respon
 pub write-response-determined : (κs : Lfts 2) (a : ArgsD write-response.signature κs) (x y : AtExit (endedOf 2 write-response-kinds.ps write-response-kinds.r) κs) (r s : WriteAnswer)
     → write-response-reads.Post κs a r x → write-response-reads.Post κs a s y → (r ≡ s) × (now (x .1 .1 .1 .0) ≡ now (y .1 .1 .1 .0))
 write-response-determined κs a x y r s p q = wrote-once p q
-
-pub response-refusal-determined : Determined 0 response-refusal-kinds.ps response-refusal-kinds.r response-refusal.Post
-response-refusal-determined κs a x y r₁ r₂ p q = p ∙ sym q

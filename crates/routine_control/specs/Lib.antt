@@ -1,3 +1,4 @@
 pub mod SubFunction
+pub mod ThreeBytes
 pub mod Request
 pub mod Response

@@ -2,4 +2,5 @@
 pub mod nack;
 pub mod request;
 pub mod response;
+mod routine_bytes;
 pub mod sub_function;

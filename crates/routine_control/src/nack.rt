@@ -2,17 +2,9 @@
 ghost use mathlib.Core.Path.{_≡_};
 ghost use Rattle.paper.specs.RoutineControl.{fileTransferNegativeCodes, routineNegativeCodes};
 
-pub const ROUTINE_CONTROL_NEGATIVE_RESPONSE_CODES: [u8; 7] = [
-    0x12,
-    0x13,
-    0x22,
-    0x24,
-    0x31,
-    0x33,
-    0x72,
-];
+const ROUTINE_CONTROL_NEGATIVE_RESPONSE_CODES: [u8; 7] = [0x12, 0x13, 0x22, 0x24, 0x31, 0x33, 0x72];
 
-pub const REQUEST_FILE_TRANSFER_NEGATIVE_RESPONSE_CODES: [u8; 7] = [
+const REQUEST_FILE_TRANSFER_NEGATIVE_RESPONSE_CODES: [u8; 7] = [
     0x13,
     0x22,
     0x24,
@@ -22,14 +14,12 @@ pub const REQUEST_FILE_TRANSFER_NEGATIVE_RESPONSE_CODES: [u8; 7] = [
     0x70,
 ];
 
-// Of routine control.
 pub fn routine_control_allowed_nack_codes() -> [u8; 7]
     ensures { λ r. ⌜ r ≡ routineNegativeCodes ⌝ }
 {
     ROUTINE_CONTROL_NEGATIVE_RESPONSE_CODES
 }
 
-// Of file transfer.
 pub fn request_file_transfer_allowed_nack_codes() -> [u8; 7]
     ensures { λ r. ⌜ r ≡ fileTransferNegativeCodes ⌝ }
 {

@@ -1,18 +1,18 @@
 // Routine requests: the sub-function with its "suppress" bit, the identifier, and the whole rest as the record.
+use crate::routine_bytes::RoutineBytesAnswer;
+use crate::routine_bytes::routine_bytes_at;
 use crate::sub_function::RoutineControlSubFunction;
 use crate::sub_function::SuppressableAnswer;
 use crate::sub_function::SuppressablePositiveResponse;
+use wire::available::available_at;
 use wire::place::Place;
 use wire::refusal::Refusal;
 use wire::write::WriteAnswer;
 use wire::write::put_byte;
 use wire::write::put_bytes;
 use wire::write::put_two;
-ghost use mathlib.Core.Path.{_≡_};
-ghost use Rattle.paper.specs.RoutineControl.{writeRoutineRequest};
 ghost use Rattle.wire.specs.Writing.{Wrote};
-ghost use Rattle.routine_control.specs.SubFunction.{subOf};
-ghost use Rattle.routine_control.specs.Request.{RequestRight, requestRefusal, routineRequest};
+ghost use Rattle.routine_control.specs.Request.{RoutineRequestRight, requestToWrite};
 
 // A routine request; its record is a place of the message.
 pub struct RoutineControlRequest {
@@ -28,28 +28,15 @@ pub enum RoutineControlRequestAnswer {
     Refused(Refusal),
 }
 
-impl RoutineControlRequestAnswer {
-    pub fn refusal(self) -> Refusal
-        ensures { λ r. ⌜ r ≡ requestRefusal self ⌝ }
-    {
-        match self {
-            RoutineControlRequestAnswer::Refused(e) => e,
-            RoutineControlRequestAnswer::Accepted(_) => Refusal::WrongFormat,
-        }
-    }
-}
-
 // Fewer than three bytes are refusal 1, before the sub-function is judged.
 pub fn read_routine_request(s: &[u8]) -> RoutineControlRequestAnswer
-    ensures { λ r. ⌜ RequestRight (now (s .entry)) r ⌝ }
+    ensures { λ r. ⌜ RoutineRequestRight (now (s .entry)) r ⌝ }
 {
-    if s.len() < 3 {
-        return RoutineControlRequestAnswer::Refused(Refusal::TooShort {
-            needed: 3,
-            available: s.len(),
-        });
-    }
-    let c = SuppressablePositiveResponse::from_byte(s[0]);
+    let b = routine_bytes_at(s, 0);
+    let RoutineBytesAnswer::Accepted(bytes, next) = b else {
+        return RoutineControlRequestAnswer::Refused(b.refusal());
+    };
+    let c = SuppressablePositiveResponse::from_byte(bytes.control);
     let SuppressableAnswer::Accepted(control) = c else {
         return RoutineControlRequestAnswer::Refused(c.refusal());
     };
@@ -57,10 +44,10 @@ pub fn read_routine_request(s: &[u8]) -> RoutineControlRequestAnswer
     RoutineControlRequestAnswer::Accepted(RoutineControlRequest {
         suppress_positive_response: control.suppress_positive_response,
         sub_function,
-        routine_id: (s[1] as u16) * 256 + (s[2] as u16),
+        routine_id: bytes.identifier,
         option_record: Place {
-            start: 3,
-            len: s.len() - 3,
+            start: next,
+            len: available_at(s, next),
         },
     })
 }
@@ -73,7 +60,7 @@ pub fn write_routine_request(
     option_record: &[u8],
     out: &mut [u8],
 ) -> WriteAnswer
-    ensures { λ r. ⌜ Wrote (writeRoutineRequest (routineRequest «suppress_positive_response» (subOf «sub_function») «routine_id» (now («option_record» .entry)))) (now (out .entry)) r (now (out .exit)) ⌝ }
+    ensures { λ r. ⌜ Wrote (requestToWrite «suppress_positive_response» «sub_function» «routine_id» (now («option_record» .entry))) (now (out .entry)) r (now (out .exit)) ⌝ }
 {
     if 65535 < option_record.len() {
         return WriteAnswer::Refused(Refusal::WrongFormat);
@@ -87,6 +74,7 @@ pub fn write_routine_request(
         suppress_positive_response,
         value: sub_function,
     };
+    // The room was checked first, so that a refused write changes nothing: now no field is refused, and the answers are dropped.
     put_byte(control.to_byte(), out);
     put_two(routine_id, &mut out[1..]);
     put_bytes(option_record, &mut out[3..]);

@@ -1,17 +1,17 @@
 // Routine responses: the sub-function, the identifier, and the whole rest as the record.
+use crate::routine_bytes::RoutineBytesAnswer;
+use crate::routine_bytes::routine_bytes_at;
 use crate::sub_function::RoutineControlSubFunction;
 use crate::sub_function::SubFunctionAnswer;
+use wire::available::available_at;
 use wire::place::Place;
 use wire::refusal::Refusal;
 use wire::write::WriteAnswer;
 use wire::write::put_byte;
 use wire::write::put_bytes;
 use wire::write::put_two;
-ghost use mathlib.Core.Path.{_≡_};
-ghost use Rattle.paper.specs.RoutineControl.{writeRoutineResponse};
 ghost use Rattle.wire.specs.Writing.{Wrote};
-ghost use Rattle.routine_control.specs.SubFunction.{subOf};
-ghost use Rattle.routine_control.specs.Response.{ResponseRight, responseRefusal, routineResponse};
+ghost use Rattle.routine_control.specs.Response.{RoutineResponseRight, responseToWrite};
 
 // A routine response; its record is a place of the message.
 pub struct RoutineControlResponse {
@@ -26,37 +26,24 @@ pub enum RoutineControlResponseAnswer {
     Refused(Refusal),
 }
 
-impl RoutineControlResponseAnswer {
-    pub fn refusal(self) -> Refusal
-        ensures { λ r. ⌜ r ≡ responseRefusal self ⌝ }
-    {
-        match self {
-            RoutineControlResponseAnswer::Refused(e) => e,
-            RoutineControlResponseAnswer::Accepted(_) => Refusal::WrongFormat,
-        }
-    }
-}
-
 // Fewer than three bytes are refusal 1; then the whole first byte is judged.
 pub fn read_routine_response(s: &[u8]) -> RoutineControlResponseAnswer
-    ensures { λ r. ⌜ ResponseRight (now (s .entry)) r ⌝ }
+    ensures { λ r. ⌜ RoutineResponseRight (now (s .entry)) r ⌝ }
 {
-    if s.len() < 3 {
-        return RoutineControlResponseAnswer::Refused(Refusal::TooShort {
-            needed: 3,
-            available: s.len(),
-        });
-    }
-    let f = RoutineControlSubFunction::from_byte(s[0]);
+    let b = routine_bytes_at(s, 0);
+    let RoutineBytesAnswer::Accepted(bytes, next) = b else {
+        return RoutineControlResponseAnswer::Refused(b.refusal());
+    };
+    let f = RoutineControlSubFunction::from_byte(bytes.control);
     let SubFunctionAnswer::Accepted(sub_function) = f else {
         return RoutineControlResponseAnswer::Refused(f.refusal());
     };
     RoutineControlResponseAnswer::Accepted(RoutineControlResponse {
         sub_function,
-        routine_id: (s[1] as u16) * 256 + (s[2] as u16),
+        routine_id: bytes.identifier,
         status_record: Place {
-            start: 3,
-            len: s.len() - 3,
+            start: next,
+            len: available_at(s, next),
         },
     })
 }
@@ -68,7 +55,7 @@ pub fn write_routine_response(
     status_record: &[u8],
     out: &mut [u8],
 ) -> WriteAnswer
-    ensures { λ r. ⌜ Wrote (writeRoutineResponse (routineResponse (subOf «sub_function») «routine_id» (now («status_record» .entry)))) (now (out .entry)) r (now (out .exit)) ⌝ }
+    ensures { λ r. ⌜ Wrote (responseToWrite «sub_function» «routine_id» (now («status_record» .entry))) (now (out .entry)) r (now (out .exit)) ⌝ }
 {
     if 65535 < status_record.len() {
         return WriteAnswer::Refused(Refusal::WrongFormat);
@@ -78,6 +65,7 @@ pub fn write_routine_response(
     if room < needed {
         return WriteAnswer::Refused(Refusal::NoRoom { needed, room });
     }
+    // The room was checked first, so that a refused write changes nothing: now no field is refused, and the answers are dropped.
     put_byte(sub_function.value(), out);
     put_two(routine_id, &mut out[1..]);
     put_bytes(status_record, &mut out[3..]);

@@ -16,6 +16,7 @@ pub enum SubFunctionAnswer {
 }
 
 impl SubFunctionAnswer {
+    // The refusal; of a sub-function that was accepted there is none, and WrongFormat stands in.
     pub fn refusal(self) -> Refusal
         ensures { λ r. ⌜ r ≡ subRefusal self ⌝ }
     {
@@ -63,7 +64,8 @@ pub enum SuppressableAnswer {
 }
 
 impl SuppressableAnswer {
-    pub fn refusal(self) -> Refusal
+    // The refusal; of a byte that was accepted there is none, and WrongFormat stands in.
+    pub(crate) fn refusal(self) -> Refusal
         ensures { λ r. ⌜ r ≡ suppressRefusal self ⌝ }
     {
         match self {

@@ -8,8 +8,8 @@ use native.Mathlib.Omega.{arith}
 use Rattle.paper.specs.Answer.{Answer}
 use Rattle.paper.specs.RoutineControl.{SubFunction, knownSub, readRoutineRequest, readRoutineResponse, writeRoutineRequest, writeRoutineResponse}
 use Rattle.wire.proofs.Unique.{place-back}
-use Rattle.routine_control.specs.Request.{routineRequest, RequestRight}
-use Rattle.routine_control.specs.Response.{routineResponse, ResponseRight}
+use Rattle.routine_control.specs.Request.{routineRequest, RoutineRequestRight}
+use Rattle.routine_control.specs.Response.{routineResponse, RoutineResponseRight}
 use Rattle.routine_control.specs.declared.request.RoutineControlRequestAnswer.{RoutineControlRequestAnswer}
 use Rattle.routine_control.specs.declared.response.RoutineControlResponseAnswer.{RoutineControlResponseAnswer}
 use Rattle.station.specs.Records.{routineRequestRecord, routineResponseRecord}
@@ -18,14 +18,14 @@ use Rattle.station.specs.Handed.{whereKnown, routineRequestHanded, routi
 
 -- ---- what was read
 -- an answer about a request that is right is the paper's, in its flat form
-pub routine-request-flat : (s : List ℕ) (a : RoutineControlRequestAnswer) → RequestRight s a → flatRoutineRequest a ≡ routineRequestRecord (readRoutineRequest s)
+pub routine-request-flat : (s : List ℕ) (a : RoutineControlRequestAnswer) → RoutineRequestRight s a → flatRoutineRequest a ≡ routineRequestRecord (readRoutineRequest s)
 routine-request-flat s (RoutineControlRequestAnswer.Accepted q) right =
     let place = place-back s (q .«option_record») (right .place .0) (omega (arith, right .place .0, right .place .1)) in
     sym (ap (acceptedRoutine (q .«suppress_positive_response») (q .«sub_function») (q .«routine_id»)) place) ∙ ap routineRequestRecord (right .paper)
 routine-request-flat s (RoutineControlRequestAnswer.Refused e) right = ap routineRequestRecord (right .paper)
 
 -- the same about a response
-pub routine-response-flat : (s : List ℕ) (a : RoutineControlResponseAnswer) → ResponseRight s a → flatRoutineResponse a ≡ routineResponseRecord (readRoutineResponse s)
+pub routine-response-flat : (s : List ℕ) (a : RoutineControlResponseAnswer) → RoutineResponseRight s a → flatRoutineResponse a ≡ routineResponseRecord (readRoutineResponse s)
 routine-response-flat s (RoutineControlResponseAnswer.Accepted q) right =
     let place = place-back s (q .«status_record») (right .place .0) (omega (arith, right .place .0, right .place .1)) in
     sym (ap (acceptedRoutine false (q .«sub_function») (q .«routine_id»)) place) ∙ ap routineResponseRecord (right .paper)

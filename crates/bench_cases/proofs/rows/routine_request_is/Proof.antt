@@ -2,7 +2,7 @@
 -- Assumes nothing.
 use mathlib.Core.Path.{refl, subst}
 use Rattle.routine_control.proofs.Codes.{known}
-use Rattle.routine_control.specs.Request.{RequestRight}
+use Rattle.routine_control.specs.Request.{RoutineRequestRight}
 use Rattle.bench_cases.proofs.Exactly.{numbers, truths, held-once, known-as, on-whole, not-accepted}
 use Rattle.bench_cases.proofs.Judged.{routine-request-is}
 use borrow.Author.Needs.{needs}
@@ -10,13 +10,13 @@ use Rattle.bench_cases.proofs.rows.routine_request_is.Statement.{statem
 use Rattle.bench_cases.proofs.rows.routine_request_is.Tie as tie
 
 returns : tie.Need-returns
-returns c = not-accepted (subst (RequestRight _) (c .enum-told .given .1) (c .before .before .read-routine-request .ensures) .paper)
+returns c = not-accepted (subst (RoutineRequestRight _) (c .enum-told .given .1) (c .before .before .read-routine-request .ensures) .paper)
 
 returns-2 : tie.Need-returns-2
 returns-2 c =
     let sub = c .before .before .before in
     let a = sub .before .before .before .before .before in
-    on-whole (subst (RequestRight _) (a .a .given .1) (a .before .before .read-routine-request .ensures) .paper)
+    on-whole (subst (RoutineRequestRight _) (a .a .given .1) (a .before .before .read-routine-request .ensures) .paper)
     (routine-request-is
     (truths _ _)
     (held-once (λ f b. known f) (sub .before .value .ensures) (sub .value2 .ensures))

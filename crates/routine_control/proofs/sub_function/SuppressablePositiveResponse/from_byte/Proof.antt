@@ -24,14 +24,15 @@ refusal-requires c κs = search needs
 returns : tie.Need-returns
 unfolding suppressable
 returns c =
-    let b = c .before .before .before .before .args .b in
-    ap (controlOf (leb 128 b)) (left-answer subSaid subRefusal SubFunctionAnswer.Refused (λ e. (refl, refl)) (c .before .before .before .from-byte .ensures) (c .before .enum-told .given .1) (c .refusal .ensures))
+    let m = c .before .before .before in
+    let e = left-answer subSaid subRefusal SubFunctionAnswer.Refused (λ e. (refl, refl)) (m .from-byte .ensures) (c .before .enum-told .given .1) (c .refusal .ensures) in
+    ap (controlOf (leb 128 (m .before .args .b))) e
 
 returns-2 : tie.Need-returns-2
 unfolding suppressable
 returns-2 c =
-    let b = c .before .before .before .before .args .b in
-    ap (controlOf (leb 128 b)) (sym (ap subSaid (c .before .f .given .1)) ∙ c .before .before .before .from-byte .ensures)
+    let m = c .before .before .before in
+    ap (controlOf (leb 128 (m .before .args .b))) (sym (ap subSaid (c .before .f .given .1)) ∙ m .from-byte .ensures)
 
 pub from-byte-spec : {M : Type 1} → statement M
 from-byte-spec =
