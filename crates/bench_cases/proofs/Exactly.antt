@@ -10,7 +10,7 @@ use borrow.Author.Tests.{eqb-true, eq-eqb}
 use lib.Dec.{eqb}
 use lib.ListN.{length, drop, length-drop, drop-of-length-le}
 use Rattle.paper.specs.Answer.{Refusal, Answer, accepted, refused, Read, _leaving_}
-use Rattle.paper.proofs.Codec.{never}
+use Rattle.paper.proofs.Choice.{never}
 
 -- the test passes exactly if the fact holds
 abbrev pub Tests : Bool → Type 0 → Type 0

@@ -12,7 +12,7 @@ use lib.ListN.{length, take, drop}
 use lib.Seq.{take-at}
 use Rattle.paper.specs.Answer.{Answer, accepted, refused, Read, _leaving_, Reader, over}
 use Rattle.paper.specs.Rewriting.{RewrittenInto, rewrittenInto}
-use Rattle.paper.proofs.Codec.{never}
+use Rattle.paper.proofs.Choice.{never}
 use Rattle.wire.specs.declared.refusal.Refusal.{Refusal}
 use Rattle.file_operation.specs.Rewriting.{Rewrote}
 use Rattle.file_operation.specs.declared.rewrite.RewriteAnswer.{RewriteAnswer}

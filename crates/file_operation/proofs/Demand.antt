@@ -14,7 +14,7 @@ use lib.Seq.{drop-length, take-at}
 use Rattle.paper.specs.Answer.{accepted, Reader, _leaving_, over}
 use Rattle.paper.specs.Rewriting.{Message, Rewritten}
 use Rattle.paper.specs.Rewriting as on-paper
-use Rattle.paper.proofs.Codec.{never}
+use Rattle.paper.proofs.Choice.{never}
 use Rattle.wire.specs.Reading.{Seen, found, stopped, Right}
 use Rattle.file_operation.specs.Rewriting.{Rewrote}
 use Rattle.file_operation.specs.Calls.{Whole, Became, Demand3, Example}

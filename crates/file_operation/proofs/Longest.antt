@@ -9,7 +9,7 @@ use lib.Dec.{leb}
 use lib.ListN.{length}
 use Rattle.paper.specs.Answer.{Answer, accepted, refused, Read, _leaving_, Reader, _>>=_, over, written}
 use Rattle.paper.specs.Rewriting.{rewriting, RewrittenInto, tailBeside}
-use Rattle.paper.proofs.Codec.{never}
+use Rattle.paper.proofs.Choice.{never}
 use Rattle.wire.specs.Writing.{Wrote}
 use Rattle.wire.specs.declared.write.WriteAnswer.{WriteAnswer}
 use Rattle.wire.proofs.Writes.{writes, passed}

@@ -6,14 +6,17 @@ use native.Mathlib.Nat.{div-add-mod'}
 use Rattle.paper.specs.Answer.{Answer, accepted, refused}
 use Rattle.paper.specs.Kind.{Kind, addFile, deleteFile, replaceFile, readFile, readDir, resumeFile}
 use Rattle.wire.specs.Size.{value}
+use Rattle.wire.specs.declared.place.Place.{Place}
 use Rattle.wire.specs.declared.size.Size.{Size}
 use Rattle.wire.proofs.Halves.{sizeOf, size-back}
 use Rattle.wire.proofs.Refusals.{refusalBack, refusal-back}
 use Rattle.wire.proofs.Unique.{Determined}
 use Rattle.file_operation.specs.Mode.{kindOf, modeSaid}
+use Rattle.file_operation.specs.Part.{partSaid}
 use Rattle.file_operation.specs.declared.mode.FileOperationMode.{FileOperationMode}
 use Rattle.file_operation.specs.declared.mode.FileOperationMode.the-variants.{AddFile, DeleteFile, ReplaceFile, ReadFile, ReadDir, ResumeFile}
 use Rattle.file_operation.specs.declared.mode.ModeAnswer.{ModeAnswer}
+use Rattle.file_operation.specs.declared.part.PartAnswer.{PartAnswer}
 use Rattle.file_operation.specs.declared.payload.DataFormatIdentifier.{DataFormatIdentifier}
 use Rattle.file_operation.specs.declared.payload.SizePayload.{SizePayload}
 use Rattle.file_operation.specs.declared.payload.FileSizePayload.{FileSizePayload}
@@ -27,6 +30,8 @@ use Rattle.file_operation.proofs.payload.DataFormatIdentifier.from_byte
 use Rattle.file_operation.proofs.payload.DataFormatIdentifier.from_byte.Reads as format-from-byte
 use Rattle.file_operation.proofs.payload.DataFormatIdentifier.value.Kinds as format-value-kinds
 use Rattle.file_operation.proofs.payload.DataFormatIdentifier.value.Reads as format-value
+use Rattle.file_operation.proofs.part.PartAnswer.or_empty.Kinds as or-empty-kinds
+use Rattle.file_operation.proofs.part.PartAnswer.or_empty.Reads as or-empty
 use Rattle.file_operation.proofs.rewrite.beside_tail.Kinds as beside-tail-kinds
 use Rattle.file_operation.proofs.rewrite.beside_tail.Reads as beside-tail
 
@@ -127,6 +132,21 @@ fileSizesBack u c = fileSizesOf (sizeOf u) (sizeOf c)
 pub file-sizes-back : (x : FileSizePayload) → x .«file_size_uncompressed» .low < 2 ^ 64 → x .«file_size_compressed» .low < 2 ^ 64
     → fileSizesBack (value (x .«file_size_uncompressed»)) (value (x .«file_size_compressed»)) ≡ x
 file-sizes-back x h k = ap₂ fileSizesOf (size-back (x .«file_size_uncompressed») h) (size-back (x .«file_size_compressed») k)
+
+-- ---- parts
+-- the answer that the paper's stands for
+abbrev pub partBack : Answer Place → PartAnswer
+partBack (accepted p) = PartAnswer.At p
+partBack (refused e) = PartAnswer.Refused (refusalBack e)
+
+-- an answer comes back from what it says
+pub part-back : (r : PartAnswer) → partBack (partSaid r) ≡ r
+part-back (PartAnswer.At p) = refl
+part-back (PartAnswer.Refused e) = ap PartAnswer.Refused (refusal-back e)
+
+-- the place in an answer
+pub or-empty-determined : Determined 0 or-empty-kinds.ps or-empty-kinds.r or-empty.Post
+or-empty-determined κs a x y r₁ r₂ p q = p ∙ sym q
 
 -- ---- rewriting
 -- the writer's answer with the tail beside it

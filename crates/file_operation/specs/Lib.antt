@@ -1,4 +1,5 @@
 pub mod Mode
+pub mod Part
 pub mod Writing
 pub mod Rewriting
 pub mod Calls

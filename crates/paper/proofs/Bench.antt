@@ -11,7 +11,7 @@ use Rattle.paper.specs.Sizes.{fit, firstFit, width}
 use Rattle.paper.specs.Kind.{oneOf, addFile, deleteFile, readDir, known}
 use Rattle.paper.specs.Field.{part, byte, headed, counted, name, numbers, sizeGroup, withCount, laid, sizesAt}
 use Rattle.paper.specs.Rewriting.{rewriting}
-use Rattle.paper.specs.Request.{Request, request, readRequest, requestAt, requestBytes, writeRequest, rewriteRequest}
+use Rattle.paper.specs.Request.{Request, request, readRequest, requestAt, requestBytes, goodName, writeRequest, rewriteRequest}
 use Rattle.paper.specs.Response.{Response, response, readResponse}
 use Rattle.paper.specs.RoutineControl.{startRoutine, knownSub, RoutineRequest, RoutineResponse, routineBytes, wholeRest, readRoutineRequest, readRoutineResponse}
 
@@ -53,5 +53,5 @@ bench =
 
 -- every row of the table is right
 pub bench-right : AllRight bench
-unfolding _>>=_ give refuse ofBytes toBytes inRange begins firstRow charLength validFrom validUpTo isUtf8 fit firstFit width oneOf known part byte headed counted name numbers sizeGroup withCount laid sizesAt rewriting readRequest requestAt requestBytes writeRequest rewriteRequest readResponse knownSub routineBytes wholeRest readRoutineRequest readRoutineResponse
+unfolding _>>=_ give refuse ofBytes toBytes inRange begins firstRow charLength validFrom validUpTo isUtf8 fit firstFit width oneOf known part byte headed counted name numbers sizeGroup withCount laid sizesAt rewriting readRequest requestAt requestBytes goodName writeRequest rewriteRequest readResponse knownSub routineBytes wholeRest readRoutineRequest readRoutineResponse
 bench-right = (refl, (refl, (refl, ((refl, refl), (refl, (refl, (refl, (refl, (refl, (refl, (refl, (refl, tt))))))))))))

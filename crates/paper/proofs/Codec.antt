@@ -10,6 +10,7 @@ use lib.ListN.{length}
 use Rattle.paper.specs.Answer.{Refusal, Answer, accepted, refused, check, Read, _leaving_, Reader, onward, _>>=_, give, refuse, judge, handOut}
 use Rattle.paper.specs.Bytes.{Bytes}
 use Rattle.paper.specs.Rewriting.{Layout, Message, rewriting, Rewritten, Demand3}
+use Rattle.paper.proofs.Choice.{never}
 use Rattle.paper.proofs.Bytes.{bytes-right, bytes-append}
 
 -- `W a u`: the bytes u are one way to write a
@@ -26,15 +27,6 @@ pub layout : {A : Type 0} {p : Reader A} {W : Wire A} → Reads A p W → Layout
 layout r s m t b = (r .sound s m t b, λ v. rw (v .2) (r .complete m (v .0) t (v .1)))
 
 -- ---- one field after the other
--- a refusal is not an acceptance
-pub never : {A : Type 0} {r : Refusal} {a : A} → refused r ≡ accepted a → ⊥
-never e = let z : _≡_ {A = ℕ} 0 1 = cc in omega arith
-
--- what is accepted after a check has passed it
-pub check-passed : {A : Type 0} (ok : Bool) (r : Refusal) (a : Answer A) {x : A} → check ok r a ≡ accepted x → (ok ≡ true) × (a ≡ accepted x)
-check-passed true r a e = (refl, e)
-check-passed false r a e = absurd (never e)
-
 -- what is accepted in two steps was accepted in each
 pub onward-is : {A B : Type 0} (o : Answer (Read A)) (k : A → Reader B) (b : B) (t : List ℕ) → onward o k ≡ accepted (b leaving t)
     → (a : A) × (r : List ℕ) × (o ≡ accepted (a leaving r)) × (k a r ≡ accepted (b leaving t))

@@ -17,8 +17,8 @@ use Rattle.paper.specs.Sizes.{Fit, Holds}
 use Rattle.paper.specs.Kind.{oneOf, Kind, addFile, deleteFile, replaceFile, readFile, readDir, resumeFile, modeOf, kinds, known}
 use Rattle.paper.specs.Field.{part, byte, number, Headed, headed, counted, name, numbers, goodWidth, sizeGroup, withCount, laid, sizesAt}
 use Rattle.paper.proofs.Bytes.{bytes-left, bytes-right, bytes-append, below-length, length-toBytes, of-length, of-to, bytes-toBytes}
-use Rattle.paper.proofs.Choice.{both-true}
-use Rattle.paper.proofs.Codec.{Wire, Reads, never, onward-is, reads-as, reads-give, reads-refuse, Given, reads-map, reads-kept, Kept, always}
+use Rattle.paper.proofs.Choice.{both-true, never}
+use Rattle.paper.proofs.Codec.{Wire, Reads, onward-is, reads-as, reads-give, reads-refuse, Given, reads-map, reads-kept, Kept, always}
 
 -- ---- one byte
 pub record Byte (b : ℕ) (u : List ℕ) : Type 0 where

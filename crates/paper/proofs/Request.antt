@@ -2,26 +2,40 @@
 -- Assumes nothing.
 use mathlib.Core.Path.{_≡_, refl, ap, ap₂, sym, subst, _∙_}
 use Prim.Native.Nat.{ℕ, _+_, _*_, _-_, _^_, _≤_, _<_}
-use mathlib.Core.List.{List, [], _∷_, _++_}
-use mathlib.Core.Bool.{true}
+use mathlib.Core.List.{List, [], _∷_, _++_, append-assoc}
+use mathlib.Core.Logic.{_↔_}
 use native.Mathlib.Omega.{arith}
-use borrow.Author.Tests.{leb-true, le-leb}
-use lib.Dec.{leb, lit<}
-use lib.ListN.{length, replicate, length-append, length-replicate}
-use Rattle.paper.specs.Answer.{accepted, wrongFormat, check}
+use borrow.Author.Tests.{le-leb, leb-true}
+use lib.Dec.{lit<, leb}
+use lib.ListN.{length, take, drop, replicate, length-append, length-replicate}
+use lib.Seq.{take-at}
+use Rattle.paper.specs.Answer.{accepted, wrongFormat, check, _leaving_}
+use Rattle.paper.specs.Bytes.{Bytes, toBytes}
 use Rattle.paper.specs.Sizes.{Fit, Holds, fit, firstFit, width}
-use Rattle.paper.specs.Utf8.{Utf8, isUtf8}
+use Rattle.paper.specs.Utf8.{isUtf8}
 use Rattle.paper.specs.Kind.{Kind, addFile, deleteFile, replaceFile, readFile, readDir, resumeFile, modeOf}
 use Rattle.paper.specs.Field.{firstSize, secondSize, withCount, sizesAt}
 use Rattle.paper.specs.Rewriting.{Layout, Message, Demand3}
-use Rattle.paper.specs.Request.{Request, request, AfterName, formatAndSizes, nothing, formatOnly, afterName, readAfterName, readRequest, requestSizes, writeAfterName, requestAt, requestBytes, writeRequest, rewriteRequest, WritableRequest, keptAfterName, asRead, RequestWay}
+use Rattle.paper.specs.Request.{Request, request, AfterName, formatAndSizes, nothing, formatOnly, afterName, readAfterName, readRequest, requestSizes, writeAfterName, requestAt, requestBytes, goodName, writeRequest, rewriteRequest, IsName, WritableRequest, keptAfterName, asRead, RequestWay}
+use Rattle.paper.proofs.Choice.{check-passed, then-passed}
 use Rattle.paper.proofs.Utf8.{is-utf8, utf8-bytes, utf8-letters}
 use Rattle.paper.proofs.Bytes.{length-toBytes}
 use Rattle.paper.proofs.Sizes.{fit-more, any-width, width-within}
 use Rattle.paper.proofs.Codec as codec
-use Rattle.paper.proofs.Codec.{check-passed, Wire, Reads, layout, Then, reads-then, reads-as, Given, reads-give, Kept, always, reads-map, Best}
+use Rattle.paper.proofs.Codec.{Wire, Reads, layout, Then, reads-then, reads-as, Given, reads-give, Kept, always, reads-map, Best}
 use Rattle.paper.proofs.Fields.{Byte, reads-byte, Name, reads-name, Sizes, reads-sizes, two-of, Coded, small-mode, reads-known}
 use Rattle.paper.proofs.Width.{Shaped, shaped-same, shaped-after, shaped-sizes, length-sizesAt, best-width}
+
+-- ---- names that are to be written
+-- the checks of a name hand on what is one, as it is, and nothing else
+pub good-name : (n x : List ℕ) → (goodName n ≡ accepted x) ↔ ((x ≡ n) × IsName n)
+unfolding goodName
+good-name n x = (
+  λ e. let (short, rest) = check-passed (leb (length n) 65535) wrongFormat (check (isUtf8 n) wrongFormat (accepted n)) e in
+      let (utf8, same) = check-passed (isUtf8 n) wrongFormat (accepted n) rest in
+      (cc, record { utf8 = is-utf8 n .0 utf8; short = leb-true _ _ short }),
+  λ h. rw (le-leb (length n) 65535 (h .1 .short), is-utf8 n .1 (h .1 .utf8), h .0),
+)
 
 -- ---- what stands after the name
 record Rest (k : Kind) (n : List ℕ) (h : AfterName) (m : Request) (u : List ℕ) : Type 0 where
@@ -115,8 +129,7 @@ whole-there m u v =
     let name-is : m .name ≡ named .from = rest .name ∙ named .is in
     record {
       writable = record {
-        utf8 = rw name-is (is-utf8 (named .from) .0 (named .passed));
-        short = rw name-is (omega (arith, named .way .small));
+        named = rw name-is (record { utf8 = is-utf8 (named .from) .0 (named .passed); short = omega (arith, named .way .small) });
         format = rest .format;
         sizes = fit-more (rest .holds .within) (requestSizes m) (rest .holds .fit);
       };
@@ -141,9 +154,9 @@ whole-back m u v =
         back = back;
         one = record {
           from = m .name;
-          passed = is-utf8 (m .name) .1 (v .writable .utf8);
+          passed = is-utf8 (m .name) .1 (v .writable .named .utf8);
           is = refl;
-          way = record { small = omega (arith, v .writable .short); plain = utf8-bytes (v .writable .utf8); is = refl };
+          way = record { small = omega (arith, v .writable .named .short); plain = utf8-bytes (v .writable .named .utf8); is = refl };
         };
         two = record {
           first = m .kind;
@@ -167,6 +180,14 @@ reads-request =
 -- a request is accepted with value m and tail t exactly if it is one of m's ways of being written followed by t
 pub request-layout : Layout readRequest RequestWay
 request-layout = layout reads-request
+
+-- the name of a request that is accepted is one, and stands at 3
+pub request-name : (s : List ℕ) {t : List ℕ} {m : Request} → Bytes s → readRequest s ≡ accepted (m leaving t) → IsName (m .name) × (take (length (m .name)) (drop 3 s) ≡ m .name)
+unfolding requestAt withCount toBytes
+request-name s {t} {m} bytes read =
+    let (u, way, joined) = request-layout s m t bytes .0 read in
+    let rest = writeAfterName (way .width) (afterName (m .kind)) m in
+    (way .writable .named, rw (joined, way .is, append-assoc (m .name) rest t) (take-at (m .name) (rest ++ t) (length (m .name)) refl))
 
 -- ---- demand 3
 shaped-rest : (h : AfterName) (m : Request) → Shaped (λ (w : ℕ). writeAfterName w h m)
@@ -198,7 +219,7 @@ accepts : (m : Request) → WritableRequest (asRead m) → writeRequest m ≡ ac
 unfolding writeRequest
 accepts m w =
     let (twice, same, named) = ignored (m .kind) (m .name) (m .format) (m .uncompressed) (m .compressed) in
-    rw (le-leb (length (m .name)) 65535 (rw named at (w .short)), is-utf8 (m .name) .1 (rw named at (w .utf8)))
+    rw (good-name (m .name) (m .name) .1 (refl, rw named at (w .named)))
 
 -- demand 3 holds of requests
 pub request-demand-3 : Demand3 Request readRequest rewriteRequest
@@ -229,18 +250,16 @@ length-request m w l short = let most = length-rest (afterName (m .kind)) m w l 
 
 -- no way of writing a request has more than 65,572 bytes
 pub request-longest : (m : Request) (u : List ℕ) → RequestWay m u → length u ≤ 65572
-request-longest m u v = rw (v .is) (length-request m (v .width) (v .holds .within) (v .writable .short))
+request-longest m u v = rw (v .is) (length-request m (v .width) (v .holds .within) (v .writable .named .short))
 
 -- and whatever stands for what a kind lacks, no more are written
 pub written-longest : (m : Request) (u : List ℕ) → writeRequest m ≡ accepted u → length u ≤ 65572
 unfolding writeRequest requestBytes
 written-longest m u e =
-    let bytes = accepted (requestBytes m) in
-    let utf8 = isUtf8 (m .name) in
-    let (short, e₁) = check-passed (leb (length (m .name)) 65535) wrongFormat (check utf8 wrongFormat bytes) e in
-    let (good, e₂) = check-passed utf8 wrongFormat bytes e₁ in
+    let (x, good, bytes) = then-passed (goodName (m .name)) (accepted (requestBytes m)) e in
+    let named = good-name (m .name) x .0 good in
     let is : u ≡ requestBytes m = cc in
-    rw is (length-request m (width (requestSizes m)) (width-within (requestSizes m)) (leb-true (length (m .name)) 65535 short))
+    rw is (length-request m (width (requestSizes m)) (width-within (requestSizes m)) (named .1 .short))
 
 -- and one that is written has as many: a name of 65,535 letters and the largest size
 large : ℕ → Request
@@ -253,8 +272,7 @@ length-large n = simp (length-append, length-toBytes, length-sizesAt, length-rep
 large-writable : (n : ℕ) → n ≤ 65535 → WritableRequest (asRead (large n))
 unfolding large asRead
 large-writable n h = record {
-  utf8 = utf8-letters n 0x61 (omega arith, omega arith);
-  short = rw length-replicate h;
+  named = record { utf8 = utf8-letters n 0x61 (omega arith, omega arith); short = rw length-replicate h };
   format = omega arith;
   sizes = (lit< tt, (lit< tt, tt));
 }

@@ -3,24 +3,34 @@
 use mathlib.Core.Path.{_≡_, refl, ap, ap₂, sym, subst, _∙_}
 use Prim.Native.Nat.{ℕ, _+_, _*_, _-_, _^_, _≤_, _<_}
 use mathlib.Core.List.{List, [], _∷_, _++_}
-use mathlib.Core.Bool.{true}
+use mathlib.Core.Logic.{_↔_}
 use native.Mathlib.Omega.{arith}
-use borrow.Author.Tests.{leb-true, le-leb}
-use lib.Dec.{leb, lit<}
+use borrow.Author.Tests.{le-leb, leb-true}
+use lib.Dec.{lit<, leb}
 use lib.ListN.{length, replicate, length-append, length-replicate}
-use Rattle.paper.specs.Answer.{accepted, wrongFormat}
+use Rattle.paper.specs.Answer.{accepted, wrongFormat, _leaving_}
 use Rattle.paper.specs.Bytes.{Bytes, toBytes}
 use Rattle.paper.specs.Sizes.{Fit, Holds, fit, firstFit, width}
 use Rattle.paper.specs.Kind.{Kind, addFile, deleteFile, replaceFile, readFile, readDir, resumeFile, modeOf}
 use Rattle.paper.specs.Field.{firstSize, secondSize, withCount, sizesAt}
 use Rattle.paper.specs.Rewriting.{Layout, Message, Demand3}
-use Rattle.paper.specs.Response.{Response, response, AfterFormat, nothing, twoSizes, oneSize, place, AfterMode, ended, blockAndFormat, afterMode, readAfterFormat, readAfterMode, readResponse, sizesOf, responseSizes, writeAfterFormat, writeAfterMode, responseAt, responseBytes, keptAfterFormat, keptAfterMode, asRead, writeResponse, rewriteResponse, WritableResponse, ResponseWay}
+use Rattle.paper.specs.Response.{Response, response, AfterFormat, nothing, twoSizes, oneSize, place, AfterMode, ended, blockAndFormat, afterMode, readAfterFormat, readAfterMode, readResponse, sizesOf, responseSizes, writeAfterFormat, writeAfterMode, responseAt, responseBytes, keptAfterFormat, keptAfterMode, asRead, goodBlockLength, writeResponse, rewriteResponse, WritableResponse, ResponseWay}
+use Rattle.paper.proofs.Choice.{check-passed, then-passed}
 use Rattle.paper.proofs.Bytes.{bytes-replicate, length-toBytes}
 use Rattle.paper.proofs.Sizes.{fit-more, any-width, width-within}
 use Rattle.paper.proofs.Codec as codec
-use Rattle.paper.proofs.Codec.{check-passed, Wire, Reads, layout, Then, reads-then, reads-as, Given, reads-give, Kept, always, reads-map, Best}
+use Rattle.paper.proofs.Codec.{Wire, Reads, layout, Then, reads-then, reads-as, Given, reads-give, Kept, always, reads-map, Best}
 use Rattle.paper.proofs.Fields.{Byte, reads-byte, Number, reads-number, Count, reads-counted, Sizes, reads-sizes, one-of, two-of, Coded, small-mode, reads-known}
 use Rattle.paper.proofs.Width.{Shaped, shaped-same, shaped-after, shaped-sizes, length-sizesAt, best-width}
+
+-- ---- block lengths that are to be written
+-- the check of a block length hands on what one byte can count, as it is, and nothing else
+pub good-block-length : (b x : List ℕ) → (goodBlockLength b ≡ accepted x) ↔ ((x ≡ b) × (length b ≤ 255))
+unfolding goodBlockLength
+good-block-length b x = (
+  λ e. let (short, same) = check-passed (leb (length b) 255) wrongFormat (accepted b) e in (cc, leb-true _ _ short),
+  λ h. rw (le-leb (length b) 255 (h .1), h .0),
+)
 
 -- ---- what stands after the format byte
 -- the values that stand there, within their ranges
@@ -251,6 +261,10 @@ reads-response =
 pub response-layout : Layout readResponse ResponseWay
 response-layout = layout reads-response
 
+-- one byte can count the block length of a response that is accepted
+pub response-block-length : (s : List ℕ) {t : List ℕ} {m : Response} → Bytes s → readResponse s ≡ accepted (m leaving t) → length (m .block) ≤ 255
+response-block-length s {t} {m} bytes read = response-layout s m t bytes .0 read .1 .writable .short
+
 -- ---- demand 3
 shaped-last : (h : AfterFormat) (m : Response) → Shaped (λ (w : ℕ). writeAfterFormat w h m)
 shaped-last nothing m = shaped-same []
@@ -283,7 +297,7 @@ ignored resumeFile b f x y p = (refl, refl)
 -- what can be written is not refused; an over-long block length of a kind that lacks it does not matter
 accepts : (m : Response) → WritableResponse (asRead m) → writeResponse m ≡ accepted (responseBytes m)
 unfolding writeResponse
-accepts m w = rw (le-leb (length (asRead m .block)) 255 (w .short))
+accepts m w = rw (good-block-length (asRead m .block) (asRead m .block) .1 (refl, w .short))
 
 -- demand 3 holds of responses
 pub response-demand-3 : Demand3 Response readResponse rewriteResponse
@@ -330,11 +344,11 @@ response-longest m u v = rw (v .is) (omega (arith, length-rest (afterMode (m .ki
 pub written-longest : (m : Response) (u : List ℕ) → writeResponse m ≡ accepted u → length u ≤ 292
 unfolding writeResponse responseBytes responseAt
 written-longest m u e =
-    let (short, bytes) = check-passed (leb (length (asRead m .block)) 255) wrongFormat (accepted (responseBytes m)) e in
+    let (x, good, bytes) = then-passed (goodBlockLength (asRead m .block)) (accepted (responseBytes m)) e in
     let (twice, same) = ignored (m .kind) (m .block) (m .format) (m .uncompressed) (m .compressed) (m .position) in
     let is : u ≡ responseBytes (asRead m) = cc in
     let k = afterMode (asRead m .kind) in
-    let most = length-rest k (asRead m) (width (responseSizes k (asRead m))) (width-within (responseSizes k (asRead m))) (leb-true (length (asRead m .block)) 255 short) in
+    let most = length-rest k (asRead m) (width (responseSizes k (asRead m))) (width-within (responseSizes k (asRead m))) (good-block-length (asRead m .block) x .0 good .1) in
     rw is (omega arith)
 
 -- and one that is written has as many: 255 block-length bytes and the largest size

@@ -12,8 +12,8 @@ use Rattle.paper.specs.Sizes.{fit, firstFit, width, less, equal, greater
 use Rattle.paper.specs.Kind.{oneOf, addFile, deleteFile, replaceFile, readFile, readDir, resumeFile, modeOf, kinds, known}
 use Rattle.paper.specs.Field.{part, byte, number, headed, counted, name, numbers, sizeGroup, withCount, laid, sizesAt}
 use Rattle.paper.specs.Rewriting.{rewriting, rewrittenInto}
-use Rattle.paper.specs.Request.{request, readRequest, requestAt, requestBytes, writeRequest, rewriteRequest}
-use Rattle.paper.specs.Response.{response, readResponse, responseAt, responseBytes, writeResponse, asRead}
+use Rattle.paper.specs.Request.{request, readRequest, requestAt, requestBytes, goodName, writeRequest, rewriteRequest}
+use Rattle.paper.specs.Response.{response, readResponse, responseAt, responseBytes, goodBlockLength, writeResponse, asRead}
 use Rattle.paper.specs.RoutineControl.{startRoutine, stopRoutine, requestRoutineResults, byteOf, subFunctions, knownSub, routineBytes, wholeRest, readRoutineRequest, readRoutineResponse, routineRequestBytes, routineResponseBytes}
 use Rattle.paper.specs.Desk.{deskCheck}
 
@@ -89,7 +89,7 @@ writing : (let m = request deleteFile (0x61 ∷ []) 7 8 9 in
     × (written (writeRequest (request deleteFile (0xFF ∷ []) 0 0 0)) (1 ∷ []) ≡ record { answer = refused (refusal 2 0 0); contents = 1 ∷ [] })
     × (writeResponse (response deleteFile (replicate 300 0) 0 0 0 0) ≡ accepted (0x02 ∷ []))
     × (writeResponse (response addFile (replicate 256 0) 0 0 0 0) ≡ refused (refusal 2 0 0)))
-unfolding over toBytes inRange begins firstRow charLength validFrom validUpTo isUtf8 withCount requestAt requestBytes writeRequest responseAt responseBytes asRead writeResponse
+unfolding over toBytes inRange begins firstRow charLength validFrom validUpTo isUtf8 withCount requestAt requestBytes goodName writeRequest responseAt responseBytes asRead goodBlockLength writeResponse
 writing = (refl, refl, refl, refl, refl, refl)
 
 -- rewriting into a buffer: sizes at width 2, with a byte after them, are written at width 1, and the byte is the tail; too little room, and a message that can't be read, change nothing
@@ -97,7 +97,7 @@ into : (let s : List ℕ = 0x01 ∷ 0x00 ∷ 0x00 ∷ 0x11 ∷ 0x02 ∷ 0x00 ∷
     (rewrittenInto (rewriteRequest s) (replicate 8 9) ≡ record { answer = accepted (7 leaving (0x5A ∷ [])); contents = 0x01 ∷ 0x00 ∷ 0x00 ∷ 0x11 ∷ 0x01 ∷ 0x01 ∷ 0x02 ∷ 9 ∷ [] })
     × (rewrittenInto (rewriteRequest s) (replicate 6 9) ≡ record { answer = refused (refusal 7 7 6); contents = replicate 6 9 })
     × (rewrittenInto (rewriteRequest (0x01 ∷ [])) (replicate 6 9) ≡ record { answer = refused (refusal 1 2 0); contents = replicate 6 9 }))
-unfolding _>>=_ give refuse over ofBytes toBytes inRange begins firstRow charLength validFrom validUpTo isUtf8 fit firstFit width oneOf known part byte headed counted name numbers sizeGroup withCount laid sizesAt rewriting readRequest requestAt requestBytes writeRequest rewriteRequest
+unfolding _>>=_ give refuse over ofBytes toBytes inRange begins firstRow charLength validFrom validUpTo isUtf8 fit firstFit width oneOf known part byte headed counted name numbers sizeGroup withCount laid sizesAt rewriting readRequest requestAt requestBytes goodName writeRequest rewriteRequest
 into = (refl, refl, refl)
 
 -- the desk check: the reader's refusals, then bytes left over, then the sizes of kinds 1, 3 and 6; equal and smaller compressed sizes pass, and so do the other kinds

@@ -62,6 +62,12 @@ pub data Answer (A : Type 0) : Type 0 where
 abbrev pub check : {A : Type 0} → Bool → Refusal → Answer A → Answer A
 check ok r a = pick ok a (refused r)
 
+-- one answer after the other: the second where the first accepts, else the first's refusal
+infixr 4 _then_
+abbrev pub _then_ : {A B : Type 0} → Answer A → Answer B → Answer B
+_then_ (accepted a) next = next
+_then_ (refused r) next = refused r
+
 -- ---- reading
 -- what a reader hands out: a value, and the tail, the bytes that it leaves
 infix 5 _leaving_

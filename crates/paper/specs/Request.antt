@@ -4,7 +4,7 @@ use mathlib.Core.Path.{_≡_}
 use mathlib.Core.List.{List, [], _∷_, _++_}
 use lib.ListN.{length}
 use lib.Dec.{leb}
-use Rattle.paper.specs.Answer.{Answer, accepted, wrongFormat, check, Reader, _>>=_, give, handOut}
+use Rattle.paper.specs.Answer.{Answer, accepted, wrongFormat, check, _then_, Reader, _>>=_, give, handOut}
 use Rattle.paper.specs.Utf8.{Utf8, isUtf8}
 use Rattle.paper.specs.Sizes.{Fit, Holds, width}
 use Rattle.paper.specs.Kind.{Kind, addFile, deleteFile, replaceFile, readFile, readDir, resumeFile, modeOf, known}
@@ -70,19 +70,27 @@ requestAt w m = modeOf (m .kind) ∷ (withCount 2 (m .name) ++ writeAfterName w 
 unfoldable pub requestBytes : Request → List ℕ
 requestBytes m = requestAt (width (requestSizes m)) m
 
--- the checks when writing: the name too long, then not UTF-8 (the check of room comes with the buffer)
+-- the checks of a name when writing: too long, then not UTF-8
+unfoldable pub goodName : List ℕ → Answer (List ℕ)
+goodName n = check (leb (length n) 65535) wrongFormat (check (isUtf8 n) wrongFormat (accepted n))
+
+-- the checks when writing are those of the name (the check of room comes with the buffer)
 unfoldable pub writeRequest : Request → Answer (List ℕ)
-writeRequest m = check (leb (length (m .name)) 65535) wrongFormat (check (isUtf8 (m .name)) wrongFormat (accepted (requestBytes m)))
+writeRequest m = goodName (m .name) then accepted (requestBytes m)
 
 -- a request read and written anew; the tail is not written
 unfoldable pub rewriteRequest : Reader (List ℕ)
 rewriteRequest = rewriting readRequest writeRequest
 
 -- ---- what can be written, and in which ways
--- a good name, and numbers that fit their fields
+-- a name: UTF-8, and short enough for its length in two bytes
+pub record IsName (n : List ℕ) : Type 0 where
+  pub utf8 : Utf8 n
+  pub short : length n ≤ 65535
+
+-- a name, and numbers that fit their fields
 pub record WritableRequest (m : Request) : Type 0 where
-  pub utf8 : Utf8 (m .name)
-  pub short : length (m .name) ≤ 65535
+  pub named : IsName (m .name)
   pub format : m .format < 256
   pub sizes : Fit 16 (requestSizes m)
 

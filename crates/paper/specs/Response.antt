@@ -4,7 +4,7 @@ use mathlib.Core.Path.{_≡_}
 use mathlib.Core.List.{List, [], _∷_, _++_}
 use lib.ListN.{length}
 use lib.Dec.{leb}
-use Rattle.paper.specs.Answer.{Answer, accepted, wrongFormat, check, Reader, _>>=_, give, handOut}
+use Rattle.paper.specs.Answer.{Answer, accepted, wrongFormat, check, _then_, Reader, _>>=_, give, handOut}
 use Rattle.paper.specs.Bytes.{Bytes, toBytes}
 use Rattle.paper.specs.Sizes.{Fit, Holds, width}
 use Rattle.paper.specs.Kind.{Kind, addFile, deleteFile, replaceFile, readFile, readDir, resumeFile, modeOf, known}
@@ -112,9 +112,13 @@ keptAfterMode (blockAndFormat more) m = keptAfterFormat more m
 unfoldable pub asRead : Response → Response
 asRead m = keptAfterMode (afterMode (m .kind)) m
 
--- the check when writing: the block length too long, where the kind has one (the check of room comes with the buffer)
+-- the check of a block length when writing: too long
+unfoldable pub goodBlockLength : List ℕ → Answer (List ℕ)
+goodBlockLength b = check (leb (length b) 255) wrongFormat (accepted b)
+
+-- the check when writing is that of the block length, where the kind has one (the check of room comes with the buffer)
 unfoldable pub writeResponse : Response → Answer (List ℕ)
-writeResponse m = check (leb (length (asRead m .block)) 255) wrongFormat (accepted (responseBytes m))
+writeResponse m = goodBlockLength (asRead m .block) then accepted (responseBytes m)
 
 -- a response read and written anew; the tail is not written
 unfoldable pub rewriteResponse : Reader (List ℕ)

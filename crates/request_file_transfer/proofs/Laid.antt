@@ -2,18 +2,15 @@
 -- Assumes nothing.
 use mathlib.Core.Path.{_≡_, refl, ap, sym, _∙_}
 use Prim.Native.Nat.{ℕ, _+_, _≤_, _<_}
-use mathlib.Core.Bool.{Bool, true, false}
 use mathlib.Core.List.{List, [], _∷_, _++_}
 use native.Mathlib.Omega.{arith}
-use borrow.Author.Tests.{le-leb, leb-true}
-use lib.Dec.{leb}
 use lib.ListN.{length, length-append}
-use Rattle.paper.specs.Answer.{Answer, accepted, refused, wrongFormat, check}
-use Rattle.paper.specs.Utf8.{isUtf8}
+use Rattle.paper.specs.Answer.{accepted, refused, _then_}
 use Rattle.paper.specs.Kind.{modeOf}
 use Rattle.paper.specs.Sizes.{width}
 use Rattle.paper.specs.Field.{withCount}
-use Rattle.paper.specs.Request.{Request, AfterName, formatAndSizes, nothing, formatOnly, afterName, requestSizes, writeAfterName, requestAt, requestBytes, writeRequest}
+use Rattle.paper.specs.Request.{Request, AfterName, formatAndSizes, nothing, formatOnly, afterName, requestSizes, writeAfterName, requestAt, requestBytes, goodName, writeRequest, IsName}
+use Rattle.paper.proofs.Request.{good-name}
 use Rattle.wire.specs.Refusals.{row}
 use Rattle.wire.specs.Writing.{Wrote, Filled, countedRun, sizesOut}
 use Rattle.wire.specs.declared.refusal.Refusal.{Refusal}
@@ -23,27 +20,17 @@ use Rattle.wire.proofs.Over.{rest, back, filled-more, filled-as}
 use Rattle.wire.proofs.Writes.{writes, passed, filled}
 use Rattle.file_operation.specs.Mode.{kindOf}
 use Rattle.file_operation.specs.Writing.{lengthIn}
-use Rattle.file_operation.proofs.Lengths.{same-refusal, same-number}
+use Rattle.file_operation.proofs.Lengths.{same-refusal, same-number, accepted-length, length-then, accepted-then}
 use Rattle.file_operation.specs.declared.mode.FileOperationMode.{FileOperationMode}
 use Rattle.file_operation.specs.declared.payload.SizePayload.{SizePayload}
 use Rattle.request_file_transfer.specs.Writing.{requestOf, restBytes}
 
--- ---- what the length of a judged message says of its checks
--- a message after its two checks
-abbrev judged : Bool → Bool → List ℕ → Answer (List ℕ)
-judged short utf8 bytes = check short wrongFormat (check utf8 wrongFormat (accepted bytes))
-
--- both passed
-both-passed : (short utf8 : Bool) (bytes : List ℕ) {n : ℕ} → accepted n ≡ lengthIn (judged short utf8 bytes) → (short ≡ true) × (utf8 ≡ true) × (n ≡ length bytes)
-both-passed true true bytes e = (refl, refl, cc)
-both-passed true false bytes e = (refl, cc, cc)
-both-passed false utf8 bytes e = (cc, cc, cc)
-
--- the checks do not look at the bytes
-same-length : (short utf8 : Bool) (bytes others : List ℕ) → length bytes ≡ length others → lengthIn (judged short utf8 bytes) ≡ lengthIn (judged short utf8 others)
-same-length true true bytes others e = ap accepted e
-same-length true false bytes others e = refl
-same-length false utf8 bytes others e = refl
+-- what `good_name` says: a number, and the name is one of so many bytes
+pub named : (name : List ℕ) {n : ℕ} → accepted n ≡ lengthIn (goodName name) → IsName name × (n ≡ length name)
+named name said =
+    let (x, passed, long) = accepted-length (goodName name) said in
+    let (same, is) = good-name name x .0 passed in
+    (is, long ∙ ap length same)
 
 -- ---- a request, for a format byte
 module _ (kind : FileOperationMode) (name : List ℕ) (size : SizePayload) where
@@ -76,24 +63,25 @@ module _ (kind : FileOperationMode) (name : List ℕ) (size : SizePayload) where
   any-format f nothing = refl
   any-format f formatOnly = refl
 
-  -- the checks passed: the message is the bytes
-  pub good : (f : ℕ) → length name ≤ 65535 → isUtf8 name ≡ true → writeRequest (asked f) ≡ accepted (requestBytes (asked f))
+  -- how many bytes the request has, or its refusal: the format byte does not tell
+  pub length-is : (f : ℕ) → lengthIn (writeRequest (asked f)) ≡ (goodName name then accepted (3 + length name + length (after 0)))
   unfolding writeRequest
-  good f h u = rw (le-leb _ _ h, u)
+  length-is f = length-then (goodName name) (requestBytes (asked f)) (omega (arith, length-request f, any-format f (afterName (kindOf kind))))
+
+  -- the checks passed: the message is the bytes
+  pub good : (f : ℕ) → IsName name → writeRequest (asked f) ≡ accepted (requestBytes (asked f))
+  unfolding writeRequest
+  good f is = rw (good-name name name .1 (refl, is))
 
   module _ (f : ℕ) where
     -- what an accepted length says of the request
     pub record Measured (n : ℕ) : Type 0 where
-      pub short : length name ≤ 65535
-      pub utf8 : isUtf8 name ≡ true
+      pub named : IsName name
       pub long : n ≡ 3 + length name + length (after f)
 
     -- it is as long as the one with the format byte 0, or refused alike
     as-long : lengthIn (writeRequest (asked 0)) ≡ lengthIn (writeRequest (asked f))
-    unfolding writeRequest
-    as-long =
-        same-length (leb (length name) 65535) (isUtf8 name) (requestBytes (asked 0)) (requestBytes (asked f))
-        (omega (arith, length-request 0, length-request f, any-format f (afterName (kindOf kind))))
+    as-long = length-is 0 ∙ sym (length-is f)
 
     -- `needed` refused: writing is refused alike
     pub off : {old : List ℕ} (e : Refusal) → refused (row e) ≡ lengthIn (writeRequest (asked 0)) → Wrote (writeRequest (asked f)) old (WriteAnswer.Refused e) old
@@ -102,10 +90,9 @@ module _ (kind : FileOperationMode) (name : List ℕ) (size : SizePayload) where
     module _ {n : ℕ} (said : accepted n ≡ lengthIn (writeRequest (asked 0))) where
       -- `needed` accepted
       pub on : Measured n
-      unfolding writeRequest
       on =
-          let (short, utf8, long) = both-passed (leb (length name) 65535) (isUtf8 name) (requestBytes (asked 0)) said in
-          record { short = leb-true _ _ short; utf8 = utf8; long = omega (arith, length-request 0, any-format f (afterName (kindOf kind))) }
+          let (x, passed, long) = accepted-then (goodName name) (3 + length name + length (after 0)) (said ∙ length-is 0) in
+          record { named = good-name name x .0 passed .1; long = omega (arith, any-format f (afterName (kindOf kind))) }
 
       module _ {old : List ℕ} where
         -- too little room
@@ -118,7 +105,7 @@ module _ (kind : FileOperationMode) (name : List ℕ) (size : SizePayload) where
             → Wrote (writeRequest (asked f)) old (WriteAnswer.Accepted n) (back (3 + length name) (back 1 x y) z)
         laid-out room table first second third =
             let measured = on in
-            passed (good f (measured .short) (measured .utf8))
+            passed (good f (measured .named))
             (writes n (length-request f ∙ sym (measured .long)) room
             (filled-as (sym (bytes-are f))
-            (filled-more (3 + length name) (filled-more 1 (filled refl first) (filled (counted-good 2 name (measured .short)) second) refl) (rw table at third) (omega (arith, length-counted 2 name)))))
+            (filled-more (3 + length name) (filled-more 1 (filled refl first) (filled (counted-good 2 name (measured .named .short)) second) refl) (rw table at third) (omega (arith, length-counted 2 name)))))

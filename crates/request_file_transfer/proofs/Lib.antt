@@ -6,3 +6,5 @@ pub mod DemandThree
 pub mod DemandThreeExample
 pub mod LongestRequest
 pub mod NameHeld
+pub mod Named
+pub mod Vectors

@@ -5,7 +5,7 @@ use mathlib.Core.Path.{_≡_, refl, sym, ap, _∙_}
 use mathlib.Core.List.{List}
 use native.Mathlib.Omega.{arith}
 use contract.Lifetimes.{Lfts}
-use denote.Ref.{RefT, ptr, now}
+use denote.Ref.{RefT, now}
 use denote.Triple.Clauses.{AtExit}
 use borrow.Fn.Kinds.{Dens, endedOf}
 use borrow.Fn.World.{ArgsD}
@@ -15,34 +15,30 @@ use Rattle.paper.specs.Request.{Request, formatAndSizes, nothing, formatOnly}
 use Rattle.wire.specs.Reading.{Seen, found, stopped}
 use Rattle.wire.specs.Place.{seenPlace}
 use Rattle.wire.specs.declared.write.WriteAnswer.{WriteAnswer}
-use Rattle.wire.proofs.Unique.{Determined, Settles, once, placeOf, place-back, placeAnswerOf, place-again, part-at-determined}
-use Rattle.wire.proofs.UniqueHeld.{Settled, settled}
+use Rattle.wire.proofs.Unique.{Determined, Settles, once, placeOf, place-back, placeAnswerOf, place-again}
+use Rattle.wire.proofs.UniqueHeld.{Alike, alike, Settled, settled}
 use Rattle.wire.proofs.UniqueWriting.{answerBack, answer-back, wrote-once}
 use Rattle.file_operation.specs.declared.rewrite.RewriteAnswer.{RewriteAnswer}
-use Rattle.file_operation.proofs.Unique.{kindBack, kind-back, formatOf, sizesBack, sizes-back}
+use Rattle.file_operation.proofs.Unique.{kindBack, kind-back, formatOf, sizesBack, sizes-back, partBack, part-back}
 use Rattle.file_operation.proofs.UniqueRewriting.{rewrote-once}
 use Rattle.request_file_transfer.specs.Layout.{layoutOf}
-use Rattle.request_file_transfer.specs.Name.{namePlace}
 use Rattle.request_file_transfer.specs.Reading.{seenRequest, meant, Placed}
 use Rattle.request_file_transfer.specs.declared.layout.AfterName.{AfterName}
 use Rattle.request_file_transfer.specs.declared.layout.AfterName.the-variants.{FormatAndSizes, Nothing, FormatOnly}
 use Rattle.request_file_transfer.specs.declared.read.RequestFileTransferRequest.{RequestFileTransferRequest}
 use Rattle.request_file_transfer.specs.declared.read.RequestAnswer.{RequestAnswer}
-use Rattle.request_file_transfer.proofs.NameHeld.{nameRecord}
 use Rattle.request_file_transfer.proofs.layout.after_name.Kinds as after-name-kinds
 use Rattle.request_file_transfer.proofs.layout.after_name.Reads as after-name
 use Rattle.request_file_transfer.proofs.name.name_at.Kinds as name-at-kinds
 use Rattle.request_file_transfer.proofs.name.name_at.Reads as name-at
+use Rattle.request_file_transfer.proofs.name.good_name.Kinds as good-name-kinds
+use Rattle.request_file_transfer.proofs.name.good_name.Reads as good-name
 use Rattle.request_file_transfer.proofs.name_payload.name_place.Kinds as name-place-kinds
 use Rattle.request_file_transfer.proofs.name_payload.name_place.Reads as name-place
-use Rattle.request_file_transfer.proofs.name_payload.NamePayload.fits.Kinds as fits-kinds
-use Rattle.request_file_transfer.proofs.name_payload.NamePayload.fits.Reads as fits
+use Rattle.request_file_transfer.proofs.name_payload.NamePayload.of_request as of-request
 use Rattle.request_file_transfer.proofs.name_payload.NamePayload.new as new
 use Rattle.request_file_transfer.proofs.name_payload.NamePayload.«file_path_and_name» as file-path-and-name
 use Rattle.request_file_transfer.proofs.name_payload.NamePayload.held as held
-use Rattle.request_file_transfer.proofs.name_payload.payload_at as payload-at
-use Rattle.request_file_transfer.proofs.name_payload.name_of.Kinds as name-of-kinds
-use Rattle.request_file_transfer.proofs.name_payload.name_of.Reads as name-of
 use Rattle.request_file_transfer.proofs.name_payload.request_name.Kinds as request-name-kinds
 use Rattle.request_file_transfer.proofs.name_payload.request_name.Reads as request-name
 use Rattle.request_file_transfer.proofs.read.RequestFileTransferRequest.mode_of_operation.Kinds as mode-kinds
@@ -84,18 +80,26 @@ name-at-determined κs a x y =
     let (s, (at, _)) = a in
     once (λ b. placeOf (at + 2) (length b)) (λ p next h. (place-back (now s) p (h .0) (omega (arith, h .1, h .2)), h .2)) seenPlace placeAnswerOf place-again
 
+-- the length of a good name, or the refusal
+pub good-name-determined : Determined 1 good-name-kinds.ps good-name-kinds.r good-name.Post
+good-name-determined κs a x y r₁ r₂ p q = sym (answer-back r₁) ∙ ap answerBack (p ∙ sym q) ∙ answer-back r₂
+
 -- ---- the name record
--- where the name of a request stands
+-- where the name of a request stands, or the refusal
 pub name-place-determined : Determined 1 name-place-kinds.ps name-place-kinds.r name-place.Post
-name-place-determined κs a x y r₁ r₂ p q = p ∙ sym q
+name-place-determined κs a x y r₁ r₂ p q = sym (part-back r₁) ∙ ap partBack (p ∙ sym q) ∙ part-back r₂
 
--- whether two bytes can count a name
-pub fits-determined : Determined 1 fits-kinds.ps fits-kinds.r fits.Post
-fits-determined κs a x y r₁ r₂ p q = p ∙ sym q
+-- the name of a request
+pub request-name-determined : (κs : Lfts 1) (a : Dens κs request-name-kinds.ps) (x y : AtExit (endedOf 1 request-name-kinds.ps request-name-kinds.r) κs) (r₁ r₂ : RefT (List ℕ))
+    → request-name.Post κs a r₁ x → request-name.Post κs a r₂ y → Alike r₁ r₂
+request-name-determined κs a x y r₁ r₂ p q = alike r₁ r₂ p q
 
--- the record of a slice
-pub new-determined : Settled new.ended (λ M 𝓤. new.clauses 𝓤) (λ κs r₁ r₂. r₁ ≡ r₂)
-new-determined M 𝓤 H A mem run κs a g x y r₁ r₂ = settled 𝓤 (λ p q. ap (nameRecord .make) (p ∙ sym q))
+-- of two records of a request's name, and of a slice, what they hold
+pub of-request-determined : Settled of-request.ended (λ M 𝓤. of-request.clauses 𝓤) (λ κs r₁ r₂. Alike (r₁ .«file_path_and_name») (r₂ .«file_path_and_name»))
+of-request-determined M 𝓤 H A mem run κs a g x y r₁ r₂ = settled 𝓤 (alike (r₁ .«file_path_and_name») (r₂ .«file_path_and_name»))
+
+pub new-determined : Settled new.ended (λ M 𝓤. new.clauses 𝓤) (λ κs r₁ r₂. Alike (r₁ .«file_path_and_name») (r₂ .«file_path_and_name»))
+new-determined M 𝓤 H A mem run κs a g x y r₁ r₂ = settled 𝓤 (alike (r₁ .«file_path_and_name») (r₂ .«file_path_and_name»))
 
 -- the slice of a record
 pub file-path-and-name-determined : Settled file-path-and-name.ended (λ M 𝓤. file-path-and-name.clauses 𝓤) (λ κs r₁ r₂. r₁ ≡ r₂)
@@ -104,20 +108,6 @@ file-path-and-name-determined M 𝓤 H A mem run κs a g x y r₁ r₂ = settled
 -- the slice of a record that is lent
 pub held-determined : Settled held.ended (λ M 𝓤. held.clauses 𝓤) (λ κs r₁ r₂. r₁ ≡ r₂)
 held-determined M 𝓤 H A mem run κs a g x y r₁ r₂ = settled 𝓤 (λ p q. p ∙ sym q)
-
--- of two records of the part at a place, the slices
-pub payload-at-determined : Settled payload-at.ended (λ M 𝓤. payload-at.clauses 𝓤) (λ κs r₁ r₂. (ptr (r₁ .«file_path_and_name») ≡ ptr (r₂ .«file_path_and_name»)) × (now (r₁ .«file_path_and_name») ≡ now (r₂ .«file_path_and_name»)))
-payload-at-determined M 𝓤 H A mem run κs a g x y r₁ r₂ = settled 𝓤 (part-at-determined κs a x y (r₁ .«file_path_and_name») (r₂ .«file_path_and_name»))
-
--- of two parts at a place the pointers are the same, and the bytes are
-pub name-of-determined : (κs : Lfts 1) (a : Dens κs name-of-kinds.ps) (x y : AtExit (endedOf 1 name-of-kinds.ps name-of-kinds.r) κs) (r₁ r₂ : RefT (List ℕ))
-    → name-of.Post κs a r₁ x → name-of.Post κs a r₂ y → (ptr r₁ ≡ ptr r₂) × (now r₁ ≡ now r₂)
-name-of-determined = part-at-determined
-
--- so are those of the name of a request
-pub request-name-determined : (κs : Lfts 1) (a : Dens κs request-name-kinds.ps) (x y : AtExit (endedOf 1 request-name-kinds.ps request-name-kinds.r) κs) (r₁ r₂ : RefT (List ℕ))
-    → request-name.Post κs a r₁ x → request-name.Post κs a r₂ y → (ptr r₁ ≡ ptr r₂) × (now r₁ ≡ now r₂)
-request-name-determined κs a x y = let p = namePlace (now (a .0)) in part-at-determined κs (a .0, (p, tt)) (x .0, (p, tt)) (y .0, (p, tt))
 
 -- ---- requests
 -- the code's request for the paper's

@@ -1,10 +1,15 @@
-// The name with its length in two bytes, handed back as a place of the message.
+// The name: read with its length in two bytes and handed back as a place of the message, and judged when it is to be written.
 use utf8::is_utf8;
 use wire::place::PlaceAnswer;
 use wire::place::counted_at;
 use wire::place::part_at;
 use wire::prefix::Prefix;
 use wire::refusal::Refusal;
+use wire::write::WriteAnswer;
+ghost use mathlib.Core.Path.{_≡_};
+ghost use Rattle.paper.specs.Request.{goodName};
+ghost use Rattle.wire.specs.Writing.{told};
+ghost use Rattle.file_operation.specs.Writing.{lengthIn};
 ghost use Rattle.request_file_transfer.specs.Name.{NameRight};
 
 // All of its bytes must be there, and then they must be UTF-8.
@@ -20,5 +25,19 @@ pub fn name_at(s: &[u8], at: usize) -> PlaceAnswer
         PlaceAnswer::Accepted(place, next)
     } else {
         PlaceAnswer::Refused(Refusal::WrongFormat)
+    }
+}
+
+// The checks of a name when writing: how many bytes it has, or refusal 2 where it is over 65,535 bytes or not UTF-8.
+pub fn good_name(name: &[u8]) -> WriteAnswer
+    ensures { λ r. ⌜ told r ≡ lengthIn (goodName (now (name .entry))) ⌝ }
+{
+    if 65535 < name.len() {
+        return WriteAnswer::Refused(Refusal::WrongFormat);
+    }
+    if is_utf8(name) {
+        WriteAnswer::Accepted(name.len())
+    } else {
+        WriteAnswer::Refused(Refusal::WrongFormat)
     }
 }

@@ -1,24 +1,30 @@
-// The name record: that very part of the caller's buffer, and nothing else.
+// The name record: that very part of the caller's buffer, found to be a name, and nothing else.
+// An enum cannot hold it, so beside each of its two makers stands the call that says whether there is a name: `name_place` beside `of_request`, `good_name` beside `new`.
 // The prover does not walk functions over a struct that holds a reference by itself; theirs are walked by hand, once for every such struct (wire/proofs/HeldSlice.antt).
 // `name_of` and `request_name` take plain parameters, so that a caller of theirs needs no such walk.
-use crate::name::name_at;
+use crate::name::good_name;
+use crate::read::RequestAnswer;
+use crate::read::read_request;
+use file_operation::part::PartAnswer;
 use wire::place::Place;
-use wire::place::PlaceAnswer;
 use wire::place::part_at;
+use wire::write::WriteAnswer;
 ghost use mathlib.Core.Path.{_≡_};
-ghost use lib.ListN.{length};
-ghost use lib.Dec.{leb};
+ghost use Rattle.paper.specs.Request.{goodName};
 ghost use Rattle.wire.specs.Place.{IsPart};
+ghost use Rattle.file_operation.specs.Part.{partSaid, Kept};
 ghost use Rattle.request_file_transfer.specs.Name.{namePlace, IsNameOf};
 
-// Where the name of a request stands: after the mode and the two bytes of its length. Where no name can be read, the empty place (0, 0).
-pub fn name_place(message: &[u8]) -> Place
-    ensures { λ r. ⌜ r ≡ namePlace (now (message .entry)) ⌝ }
+// Where the name of a request stands: from 3 on, empty or not. Of a request that is refused, for whatever reason, the refusal.
+pub fn name_place(message: &[u8]) -> PartAnswer
+    ensures { λ r. ⌜ partSaid r ≡ namePlace (now (message .entry)) ⌝ }
 {
-    match name_at(message, 1) {
-        PlaceAnswer::Accepted(place, _) => place,
-        PlaceAnswer::Refused(_) => Place { start: 0, len: 0 },
-    }
+    let a = read_request(message);
+    let RequestAnswer::Accepted(q, _) = a else {
+        return PartAnswer::Refused(a.refusal());
+    };
+    let place = q.file_path_and_name;
+    PartAnswer::At(place)
 }
 
 // A file's path and name, held where it stands: no byte of it is copied.
@@ -27,18 +33,22 @@ pub struct NamePayload<'a> {
 }
 
 impl<'a> NamePayload<'a> {
-    // Whether two bytes can count the name, as they must in a message: the original's `new` refuses a longer one.
-    pub fn fits(file_path_and_name: &'a [u8]) -> bool
-        ensures { λ r. ⌜ r ≡ leb (length (now («file_path_and_name» .entry))) 65535 ⌝ }
+    // Holds the name of a request; of a refused one the empty part at the buffer's start.
+    pub fn of_request(message: &'a [u8]) -> NamePayload<'a>
+        ensures { λ r. ⌜ IsNameOf (message .entry) (r .«file_path_and_name») ⌝ }
     {
-        file_path_and_name.len() <= 65535
+        NamePayload {
+            file_path_and_name: request_name(message),
+        }
     }
 
-    // Holds the very slice that it is lent, whatever its length.
+    // Holds the very slice that it is lent where that is a good name; else the empty part at its start.
     pub fn new(file_path_and_name: &'a [u8]) -> NamePayload<'a>
-        ensures { λ r. ⌜ r .«file_path_and_name» ≡ «file_path_and_name» .entry ⌝ }
+        ensures { λ r. ⌜ Kept goodName («file_path_and_name» .entry) (r .«file_path_and_name») ⌝ }
     {
-        NamePayload { file_path_and_name }
+        NamePayload {
+            file_path_and_name: kept_name(file_path_and_name),
+        }
     }
 
     // The slice that is held.
@@ -56,8 +66,18 @@ impl<'a> NamePayload<'a> {
     }
 }
 
-// The record of the name at a place of the caller's buffer; where the place runs past its end, of as much as is there.
-pub fn payload_at<'a>(message: &'a [u8], place: Place) -> NamePayload<'a>
+// The very slice where it is a good name; else the empty part at its start.
+fn kept_name(bytes: &[u8]) -> &[u8]
+    ensures { λ r. ⌜ Kept goodName (bytes .entry) r ⌝ }
+{
+    match good_name(bytes) {
+        WriteAnswer::Accepted(_) => bytes,
+        WriteAnswer::Refused(_) => &bytes[..0],
+    }
+}
+
+// The record of the name at a place that was read from the message.
+fn payload_at<'a>(message: &'a [u8], place: Place) -> NamePayload<'a>
     ensures { λ r. ⌜ IsPart (message .entry) (place .start) (place .len) (r .«file_path_and_name») ⌝ }
 {
     NamePayload {
@@ -65,16 +85,16 @@ pub fn payload_at<'a>(message: &'a [u8], place: Place) -> NamePayload<'a>
     }
 }
 
-// What the record of the name at a place hands back, for callers that keep no record.
-pub fn name_of(message: &[u8], place: Place) -> &[u8]
+// What that record hands back, for callers that keep no record.
+pub(crate) fn name_of(message: &[u8], place: Place) -> &[u8]
     ensures { λ r. ⌜ IsPart (message .entry) (place .start) (place .len) r ⌝ }
 {
     payload_at(message, place).file_path_and_name()
 }
 
-// The name of a request; where none can be read, the empty part at the buffer's start.
+// The name of a request; of a refused one the empty part at the buffer's start.
 pub fn request_name(message: &[u8]) -> &[u8]
     ensures { λ r. ⌜ IsNameOf (message .entry) r ⌝ }
 {
-    name_of(message, name_place(message))
+    name_of(message, name_place(message).or_empty())
 }

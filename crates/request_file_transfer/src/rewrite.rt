@@ -1,10 +1,10 @@
 // A request read from one buffer and written anew into another. Two requests mean the same exactly if this gives the same bytes.
+use crate::name_payload::name_of;
 use crate::read::RequestAnswer;
 use crate::read::read_request;
 use crate::write::write_request;
 use file_operation::rewrite::RewriteAnswer;
 use file_operation::rewrite::beside_tail;
-use wire::place::part_at;
 ghost use Rattle.paper.specs.Request.{rewriteRequest};
 ghost use Rattle.file_operation.specs.Rewriting.{Rewrote};
 
@@ -20,6 +20,6 @@ pub fn rewrite_request(s: &[u8], out: &mut [u8]) -> RewriteAnswer
     let place = q.file_path_and_name;
     let format = q.data_format_identifier;
     let size = q.size;
-    let w = write_request(kind, part_at(s, place), format, size, out);
+    let w = write_request(kind, name_of(s, place), format, size, out);
     beside_tail(w, tail)
 }

@@ -1,10 +1,10 @@
 // Writing a request: all checks first, then each field into the room that begins where the previous one ended.
 use crate::layout::AfterName;
 use crate::layout::after_name;
+use crate::name::good_name;
 use file_operation::mode::FileOperationMode;
 use file_operation::payload::DataFormatIdentifier;
 use file_operation::payload::SizePayload;
-use utf8::is_utf8;
 use wire::prefix::Prefix;
 use wire::refusal::Refusal;
 use wire::size::width_of_both;
@@ -34,18 +34,15 @@ fn rest_len(layout: AfterName, size: SizePayload) -> usize
     }
 }
 
-// How many bytes the request takes, without writing it. A name over 65,535 bytes, or one that is not UTF-8, is refusal 2.
+// How many bytes the request takes, without writing it; a name that is not good is refused.
 pub fn needed(kind: FileOperationMode, file_path_and_name: &[u8], size: SizePayload) -> WriteAnswer
     ensures { λ r. ⌜ told r ≡ lengthIn (writeRequest (requestOf kind (now («file_path_and_name» .entry)) 0 size)) ⌝ }
 {
-    if 65535 < file_path_and_name.len() {
-        return WriteAnswer::Refused(Refusal::WrongFormat);
-    }
-    if is_utf8(file_path_and_name) {
-        WriteAnswer::Accepted(3 + file_path_and_name.len() + rest_len(after_name(kind), size))
-    } else {
-        WriteAnswer::Refused(Refusal::WrongFormat)
-    }
+    let n = good_name(file_path_and_name);
+    let WriteAnswer::Accepted(name_len) = n else {
+        return n;
+    };
+    WriteAnswer::Accepted(3 + name_len + rest_len(after_name(kind), size))
 }
 
 fn put_format_and_sizes(format: DataFormatIdentifier, size: SizePayload, out: &mut [u8])

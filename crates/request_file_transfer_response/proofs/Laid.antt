@@ -2,18 +2,15 @@
 -- Assumes nothing.
 use mathlib.Core.Path.{_≡_, refl, sym, ap, _∙_}
 use Prim.Native.Nat.{ℕ, _+_, _≤_, _<_}
-use mathlib.Core.Bool.{Bool, true, false}
 use mathlib.Core.List.{List, [], _∷_, _++_, append-assoc}
 use native.Mathlib.Omega.{arith}
-use borrow.Author.Tests.{leb-true}
-use lib.Dec.{leb}
 use lib.ListN.{length, length-append}
-use Rattle.paper.specs.Answer.{Answer, accepted, refused, wrongFormat, check}
+use Rattle.paper.specs.Answer.{Answer, accepted, refused, _then_}
 use Rattle.paper.specs.Kind.{modeOf}
 use Rattle.paper.specs.Field.{withCount}
-use Rattle.paper.specs.Response.{AfterFormat, nothing, twoSizes, oneSize, place, AfterMode, ended, blockAndFormat, afterMode, asRead, responseAt, responseBytes, writeResponse}
+use Rattle.paper.specs.Response.{AfterFormat, nothing, twoSizes, oneSize, place, AfterMode, ended, blockAndFormat, afterMode, asRead, responseAt, responseBytes, goodBlockLength, writeResponse}
 use Rattle.paper.proofs.Bytes.{length-toBytes}
-use Rattle.paper.proofs.Codec.{never}
+use Rattle.paper.proofs.Response.{good-block-length}
 use Rattle.wire.specs.Refusals.{row}
 use Rattle.wire.specs.Writing.{Wrote, Filled, countedRun, sizesOut}
 use Rattle.wire.specs.declared.refusal.Refusal.{Refusal}
@@ -23,7 +20,7 @@ use Rattle.wire.proofs.Writes.{writes, passed, filled}
 use Rattle.wire.proofs.FieldBytes.{counted-good, length-counted}
 use Rattle.file_operation.specs.Mode.{kindOf}
 use Rattle.file_operation.specs.Writing.{lengthIn}
-use Rattle.file_operation.proofs.Lengths.{same-refusal, same-number}
+use Rattle.file_operation.proofs.Lengths.{same-refusal, same-number, accepted-length, length-then, accepted-then}
 use Rattle.file_operation.specs.declared.mode.FileOperationMode.{FileOperationMode}
 use Rattle.file_operation.specs.declared.mode.FileOperationMode.the-variants.{AddFile, DeleteFile, ReplaceFile, ReadFile, ReadDir, ResumeFile}
 use Rattle.file_operation.specs.declared.payload.FileSizePayload.{FileSizePayload}
@@ -32,12 +29,12 @@ use Rattle.request_file_transfer_response.specs.Writing.{responseOf, mor
 -- the message of a row
 abbrev pub laidOut : AfterMode → ℕ → List ℕ → ℕ → FileSizePayload → ℕ → Answer (List ℕ)
 laidOut ended mode b f x p = accepted (mode ∷ [])
-laidOut (blockAndFormat h) mode b f x p = check (leb (length b) 255) wrongFormat (accepted (mode ∷ (withCount 1 b ++ (f ∷ moreBytes h x p))))
+laidOut (blockAndFormat h) mode b f x p = goodBlockLength b then accepted (mode ∷ (withCount 1 b ++ (f ∷ moreBytes h x p)))
 
 -- a response is the message of its kind's row
 pub by-row : (kind : FileOperationMode) (b : List ℕ) (f : ℕ) (x : FileSizePayload) (p : ℕ)
     → writeResponse (responseOf kind b f x p) ≡ laidOut (afterMode (kindOf kind)) (modeOf (kindOf kind)) b f x p
-unfolding writeResponse asRead responseBytes responseAt sizesOut
+unfolding writeResponse goodBlockLength asRead responseBytes responseAt sizesOut
 by-row AddFile b f x p = refl
 by-row DeleteFile b f x p = refl
 by-row ReplaceFile b f x p = refl
@@ -48,7 +45,7 @@ by-row ResumeFile b f x p = refl
 -- how many bytes the message of a row has, or its refusal: neither the format byte nor the position tells
 abbrev pub lengthAt : AfterMode → List ℕ → FileSizePayload → Answer ℕ
 lengthAt ended b x = accepted 1
-lengthAt (blockAndFormat h) b x = check (leb (length b) 255) wrongFormat (accepted (3 + length b + length (moreBytes h x 0)))
+lengthAt (blockAndFormat h) b x = goodBlockLength b then accepted (3 + length b + length (moreBytes h x 0))
 
 -- what stands after the format byte is as long at every position
 length-more : (h : AfterFormat) (x : FileSizePayload) (p : ℕ) → length (moreBytes h x p) ≡ length (moreBytes h x 0)
@@ -57,27 +54,24 @@ length-more twoSizes x p = refl
 length-more oneSize x p = refl
 length-more place x p = length-toBytes 8 p ∙ sym (length-toBytes 8 0)
 
--- the length of a message with one check
-length-checked : (t : Bool) (bytes : List ℕ) {n : ℕ} → length bytes ≡ n → lengthIn (check t wrongFormat (accepted bytes)) ≡ check t wrongFormat (accepted n)
-length-checked true bytes e = ap accepted e
-length-checked false bytes e = refl
-
 -- the length of a row's message
 length-row : (h : AfterMode) (mode : ℕ) (b : List ℕ) (f : ℕ) (x : FileSizePayload) (p : ℕ) → lengthIn (laidOut h mode b f x p) ≡ lengthAt h b x
 length-row ended mode b f x p = refl
 length-row (blockAndFormat h) mode b f x p =
-    length-checked (leb (length b) 255) _ (omega (arith, length-append (withCount 1 b) (f ∷ moreBytes h x p), length-counted 1 b, length-more h x p))
+    length-then (goodBlockLength b) _ (omega (arith, length-append (withCount 1 b) (f ∷ moreBytes h x p), length-counted 1 b, length-more h x p))
 
 -- how many bytes a response has
 pub length-by-row : (kind : FileOperationMode) (b : List ℕ) (f : ℕ) (x : FileSizePayload) (p : ℕ) → lengthIn (writeResponse (responseOf kind b f x p)) ≡ lengthAt (afterMode (kindOf kind)) b x
 length-by-row kind b f x p = ap lengthIn (by-row kind b f x p) ∙ length-row (afterMode (kindOf kind)) (modeOf (kindOf kind)) b f x p
 
--- ---- what the answer about a response's length says of the response
--- a check that is followed by a number has passed
-has-passed : (t : Bool) {n : ℕ} (m : ℕ) → accepted n ≡ check t wrongFormat (accepted m) → (t ≡ true) × (n ≡ m)
-has-passed true m e = (refl, cc)
-has-passed false m e = absurd (never (sym e))
+-- what `good_block_length` says: a number, and the block length has so many bytes, no more than 255
+pub short : (b : List ℕ) {n : ℕ} → accepted n ≡ lengthIn (goodBlockLength b) → (length b ≤ 255) × (n ≡ length b)
+short b said =
+    let (x, passed, long) = accepted-length (goodBlockLength b) said in
+    let (same, is) = good-block-length b x .0 passed in
+    (is, long ∙ ap length same)
 
+-- ---- what the answer about a response's length says of the response
 module _ (kind : FileOperationMode) (b : List ℕ) (x : FileSizePayload) where
   -- the response whose length `needed` answers
   abbrev pub bare : Answer (List ℕ)
@@ -85,8 +79,10 @@ module _ (kind : FileOperationMode) (b : List ℕ) (x : FileSizePayload) where
 
   module _ {n : ℕ} (said : accepted n ≡ lengthIn bare) {h : AfterFormat} (listed : blockAndFormat h ≡ afterMode (kindOf kind)) where
     -- a number says that the block length is short enough, and counts all fields, where the kind has them
-    counts : (leb (length b) 255 ≡ true) × (n ≡ 3 + length b + length (moreBytes h x 0))
-    counts = has-passed (leb (length b) 255) (3 + length b + length (moreBytes h x 0)) (said ∙ length-by-row kind b 0 x 0 ∙ rw (← listed))
+    counts : (length b ≤ 255) × (n ≡ 3 + length b + length (moreBytes h x 0))
+    counts =
+        let (y, passed, long) = accepted-then (goodBlockLength b) (3 + length b + length (moreBytes h x 0)) (said ∙ length-by-row kind b 0 x 0 ∙ rw (← listed)) in
+        (good-block-length b y .0 passed .1, long)
 
     -- so there is room up to the format byte
     pub block-room : 3 + length b ≤ n
@@ -129,8 +125,8 @@ module _ (kind : FileOperationMode) (b : List ℕ) (x : FileSizePayload) where
             → Wrote whole old (WriteAnswer.Accepted n) (back (2 + length b + 1) (back (2 + length b) (back 1 u v) w) z)
         each-field {h = h} listed room first second third fourth =
             let ok = counts said listed .0 in
-            written-out (by-row kind b f x p ∙ rw (← listed, ok)) room
+            written-out (by-row kind b f x p ∙ rw (← listed, good-block-length b b .1 (refl, ok))) room
             (filled-as (append-assoc (modeOf (kindOf kind) ∷ withCount 1 b) (f ∷ []) (moreBytes h x p))
             (filled-more _
-            (filled-more _ (filled-more 1 (filled refl first) (filled (counted-good 1 b (leb-true _ _ ok)) second) refl) (filled refl third) (omega (arith, length-counted 1 b)))
+            (filled-more _ (filled-more 1 (filled refl first) (filled (counted-good 1 b ok) second) refl) (filled refl third) (omega (arith, length-counted 1 b)))
             fourth (omega (arith, length-append (withCount 1 b) (f ∷ []), length-counted 1 b))))

@@ -1,7 +1,9 @@
 pub mod Cases
 pub mod Laid
-pub mod Unique
 pub mod DemandThree
 pub mod DemandThreeExample
 pub mod LongestResponse
 pub mod SentHeld
+pub mod Unique
+pub mod Short
+pub mod Vectors

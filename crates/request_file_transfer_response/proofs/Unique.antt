@@ -4,7 +4,7 @@ use Prim.Native.Nat.{ℕ, _≤_}
 use mathlib.Core.Path.{_≡_, refl, sym, ap, _∙_}
 use mathlib.Core.List.{List}
 use contract.Lifetimes.{Lfts}
-use denote.Ref.{RefT, ptr, now}
+use denote.Ref.{RefT, now}
 use denote.Triple.Clauses.{AtExit}
 use borrow.Fn.Kinds.{Dens, endedOf}
 use borrow.Fn.World.{ArgsD}
@@ -14,12 +14,12 @@ use Rattle.paper.specs.Response.{Response, nothing, twoSizes, oneSize, place, e
 use Rattle.wire.specs.Reading.{Seen, found, stopped}
 use Rattle.wire.specs.declared.size.Size.{Size}
 use Rattle.wire.specs.declared.write.WriteAnswer.{WriteAnswer}
-use Rattle.wire.proofs.Unique.{Determined, once, placeOf, place-back, part-at-determined}
-use Rattle.wire.proofs.UniqueHeld.{Settled, settled}
+use Rattle.wire.proofs.Unique.{Determined, once, placeOf, place-back}
+use Rattle.wire.proofs.UniqueHeld.{Alike, alike, Settled, settled}
 use Rattle.wire.proofs.UniqueWriting.{answerBack, answer-back, wrote-once}
 use Rattle.file_operation.specs.declared.payload.DirSizePayload.{DirSizePayload}
 use Rattle.file_operation.specs.declared.rewrite.RewriteAnswer.{RewriteAnswer}
-use Rattle.file_operation.proofs.Unique.{kindBack, kind-back, formatOf, fileSizesBack, file-sizes-back}
+use Rattle.file_operation.proofs.Unique.{kindBack, kind-back, formatOf, fileSizesBack, file-sizes-back, partBack, part-back}
 use Rattle.file_operation.proofs.UniqueRewriting.{rewrote-once}
 use Rattle.request_file_transfer_response.specs.Layout.{moreOf, layoutOf}
 use Rattle.request_file_transfer_response.specs.Reading.{blockStart, seenResponse, meant, Placed}
@@ -27,21 +27,22 @@ use Rattle.request_file_transfer_response.specs.declared.layout.AfterFor
 use Rattle.request_file_transfer_response.specs.declared.layout.AfterMode.{AfterMode}
 use Rattle.request_file_transfer_response.specs.declared.read.RequestFileTransferResponse.{RequestFileTransferResponse}
 use Rattle.request_file_transfer_response.specs.declared.read.ResponseAnswer.{ResponseAnswer}
-use Rattle.request_file_transfer_response.proofs.SentHeld.{sentData}
 use Rattle.request_file_transfer_response.proofs.layout.after_mode.Kinds as after-mode-kinds
 use Rattle.request_file_transfer_response.proofs.layout.after_mode.Reads as after-mode
 use Rattle.request_file_transfer_response.proofs.read.RequestFileTransferResponse.dir_size.Kinds as dir-size-kinds
 use Rattle.request_file_transfer_response.proofs.read.RequestFileTransferResponse.dir_size.Reads as dir-size
 use Rattle.request_file_transfer_response.proofs.read.read_response.Kinds as read-response-kinds
 use Rattle.request_file_transfer_response.proofs.read.read_response.Reads as read-response
-use Rattle.request_file_transfer_response.proofs.sent_data.SentDataPayload.fits.Kinds as fits-kinds
-use Rattle.request_file_transfer_response.proofs.sent_data.SentDataPayload.fits.Reads as fits
+use Rattle.request_file_transfer_response.proofs.sent_data.block_length_place.Kinds as block-length-place-kinds
+use Rattle.request_file_transfer_response.proofs.sent_data.block_length_place.Reads as block-length-place
+use Rattle.request_file_transfer_response.proofs.sent_data.good_block_length.Kinds as good-block-length-kinds
+use Rattle.request_file_transfer_response.proofs.sent_data.good_block_length.Reads as good-block-length
+use Rattle.request_file_transfer_response.proofs.sent_data.SentDataPayload.of_response as of-response
 use Rattle.request_file_transfer_response.proofs.sent_data.SentDataPayload.new as new
 use Rattle.request_file_transfer_response.proofs.sent_data.SentDataPayload.«max_number_of_block_length» as max-number-of-block-length
 use Rattle.request_file_transfer_response.proofs.sent_data.SentDataPayload.held as held
-use Rattle.request_file_transfer_response.proofs.sent_data.sent_data_at as sent-data-at
-use Rattle.request_file_transfer_response.proofs.sent_data.block_length_of.Kinds as block-length-of-kinds
-use Rattle.request_file_transfer_response.proofs.sent_data.block_length_of.Reads as block-length-of
+use Rattle.request_file_transfer_response.proofs.sent_data.response_block_length.Kinds as response-block-length-kinds
+use Rattle.request_file_transfer_response.proofs.sent_data.response_block_length.Reads as response-block-length
 use Rattle.request_file_transfer_response.proofs.write.needed.Kinds as needed-kinds
 use Rattle.request_file_transfer_response.proofs.write.needed.Reads as needed
 use Rattle.request_file_transfer_response.proofs.write.write_response as write-response
@@ -121,13 +122,25 @@ pub dir-size-determined : Determined 0 dir-size-kinds.ps dir-size-kinds.r dir-si
 dir-size-determined κs a x y r₁ r₂ p q = ap dirSizeOf (p ∙ sym q)
 
 -- ---- the block length record
--- whether one byte can count a block length
-pub fits-determined : Determined 1 fits-kinds.ps fits-kinds.r fits.Post
-fits-determined κs a x y r₁ r₂ p q = p ∙ sym q
+-- where the block length of a response stands, or the refusal
+pub block-length-place-determined : Determined 1 block-length-place-kinds.ps block-length-place-kinds.r block-length-place.Post
+block-length-place-determined κs a x y r₁ r₂ p q = sym (part-back r₁) ∙ ap partBack (p ∙ sym q) ∙ part-back r₂
 
--- the record of a slice
-pub new-determined : Settled new.ended (λ M 𝓤. new.clauses 𝓤) (λ κs r₁ r₂. r₁ ≡ r₂)
-new-determined M 𝓤 H A mem run κs a g x y r₁ r₂ = settled 𝓤 (λ p q. ap (sentData .make) (p ∙ sym q))
+-- the block length of a response
+pub response-block-length-determined : (κs : Lfts 1) (a : Dens κs response-block-length-kinds.ps) (x y : AtExit (endedOf 1 response-block-length-kinds.ps response-block-length-kinds.r) κs) (r₁ r₂ : RefT (List ℕ))
+    → response-block-length.Post κs a r₁ x → response-block-length.Post κs a r₂ y → Alike r₁ r₂
+response-block-length-determined κs a x y r₁ r₂ p q = alike r₁ r₂ p q
+
+-- how many bytes a good block length has, or the refusal
+pub good-block-length-determined : Determined 1 good-block-length-kinds.ps good-block-length-kinds.r good-block-length.Post
+good-block-length-determined κs a x y r₁ r₂ p q = sym (answer-back r₁) ∙ ap answerBack (p ∙ sym q) ∙ answer-back r₂
+
+-- of two records of a response's block length, and of a slice, what they hold
+pub of-response-determined : Settled of-response.ended (λ M 𝓤. of-response.clauses 𝓤) (λ κs r₁ r₂. Alike (r₁ .«max_number_of_block_length») (r₂ .«max_number_of_block_length»))
+of-response-determined M 𝓤 H A mem run κs a g x y r₁ r₂ = settled 𝓤 (alike (r₁ .«max_number_of_block_length») (r₂ .«max_number_of_block_length»))
+
+pub new-determined : Settled new.ended (λ M 𝓤. new.clauses 𝓤) (λ κs r₁ r₂. Alike (r₁ .«max_number_of_block_length») (r₂ .«max_number_of_block_length»))
+new-determined M 𝓤 H A mem run κs a g x y r₁ r₂ = settled 𝓤 (alike (r₁ .«max_number_of_block_length») (r₂ .«max_number_of_block_length»))
 
 -- the slice of a record
 pub max-number-of-block-length-determined : Settled max-number-of-block-length.ended (λ M 𝓤. max-number-of-block-length.clauses 𝓤) (λ κs r₁ r₂. r₁ ≡ r₂)
@@ -136,15 +149,6 @@ max-number-of-block-length-determined M 𝓤 H A mem run κs a g x y r₁ r₂ =
 -- the slice of a record that is lent
 pub held-determined : Settled held.ended (λ M 𝓤. held.clauses 𝓤) (λ κs r₁ r₂. r₁ ≡ r₂)
 held-determined M 𝓤 H A mem run κs a g x y r₁ r₂ = settled 𝓤 (λ p q. p ∙ sym q)
-
--- of two records of the part at a place, the slices
-pub sent-data-at-determined : Settled sent-data-at.ended (λ M 𝓤. sent-data-at.clauses 𝓤) (λ κs r₁ r₂. (ptr (r₁ .«max_number_of_block_length») ≡ ptr (r₂ .«max_number_of_block_length»)) × (now (r₁ .«max_number_of_block_length») ≡ now (r₂ .«max_number_of_block_length»)))
-sent-data-at-determined M 𝓤 H A mem run κs a g x y r₁ r₂ = settled 𝓤 (part-at-determined κs a x y (r₁ .«max_number_of_block_length») (r₂ .«max_number_of_block_length»))
-
--- of two parts at a place the pointers are the same, and the bytes are
-pub block-length-of-determined : (κs : Lfts 1) (a : Dens κs block-length-of-kinds.ps) (x y : AtExit (endedOf 1 block-length-of-kinds.ps block-length-of-kinds.r) κs) (r₁ r₂ : RefT (List ℕ))
-    → block-length-of.Post κs a r₁ x → block-length-of.Post κs a r₂ y → (ptr r₁ ≡ ptr r₂) × (now r₁ ≡ now r₂)
-block-length-of-determined = part-at-determined
 
 -- ---- writing
 -- how many bytes the response takes, or the refusal

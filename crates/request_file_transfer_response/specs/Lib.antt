@@ -1,4 +1,5 @@
 pub mod Layout
 pub mod Reading
+pub mod BlockLength
 pub mod Writing
 pub mod Same

@@ -1,10 +1,10 @@
 // A response read from one buffer and written anew into another. Two responses mean the same exactly if this gives the same bytes.
 use crate::read::ResponseAnswer;
 use crate::read::read_response;
+use crate::sent_data::block_length_of;
 use crate::write::write_response;
 use file_operation::rewrite::RewriteAnswer;
 use file_operation::rewrite::beside_tail;
-use wire::place::part_at;
 ghost use Rattle.paper.specs.Response.{rewriteResponse};
 ghost use Rattle.file_operation.specs.Rewriting.{Rewrote};
 
@@ -21,6 +21,13 @@ pub fn rewrite_response(s: &[u8], out: &mut [u8]) -> RewriteAnswer
     let format = q.data_format_identifier;
     let file_size = q.file_size;
     let position = q.position;
-    let w = write_response(kind, part_at(s, place), format, file_size, position, out);
+    let w = write_response(
+        kind,
+        block_length_of(s, place),
+        format,
+        file_size,
+        position,
+        out,
+    );
     beside_tail(w, tail)
 }

@@ -2,6 +2,7 @@
 use crate::layout::AfterFormat;
 use crate::layout::AfterMode;
 use crate::layout::after_mode;
+use crate::sent_data::good_block_length;
 use file_operation::mode::FileOperationMode;
 use file_operation::payload::DataFormatIdentifier;
 use file_operation::payload::FileSizePayload;
@@ -45,7 +46,7 @@ fn more_len(layout: AfterFormat, file_size: FileSizePayload) -> usize
     }
 }
 
-// How many bytes the response takes, without writing it. A block length over 255 bytes is refusal 2, where the kind has one.
+// How many bytes the response takes, without writing it; a block length that is not good is refused, where the kind has one.
 pub fn needed(
     kind: FileOperationMode,
     max_number_of_block_length: &[u8],
@@ -56,10 +57,10 @@ pub fn needed(
     let AfterMode::BlockAndFormat(layout) = after_mode(kind) else {
         return WriteAnswer::Accepted(1);
     };
-    let block_len = max_number_of_block_length.len();
-    if 255 < block_len {
-        return WriteAnswer::Refused(Refusal::WrongFormat);
-    }
+    let b = good_block_length(max_number_of_block_length);
+    let WriteAnswer::Accepted(block_len) = b else {
+        return b;
+    };
     WriteAnswer::Accepted(3 + block_len + more_len(layout, file_size))
 }
 

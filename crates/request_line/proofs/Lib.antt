@@ -1,4 +1,3 @@
-pub mod Writable
 pub mod Lines
 pub mod Decimal
 pub mod Laid

@@ -11,7 +11,8 @@ use Rattle.paper.specs.Bytes.{Bytes}
 use Rattle.paper.specs.Kind.{modeOf}
 use Rattle.paper.specs.Request.{AfterName, afterName, readRequest, requestBytes, writeRequest}
 use Rattle.paper.specs.ReadingProgram.{Shown, formatShown, tooLong, good, bad, lineFor, lineOf}
-use Rattle.paper.proofs.Codec.{never}
+use Rattle.paper.proofs.Choice.{never}
+use Rattle.paper.proofs.Request.{request-name}
 use Rattle.wire.specs.Place.{bytesAt}
 use Rattle.wire.specs.declared.place.Place.{Place}
 use Rattle.wire.proofs.Unique.{place-back}
@@ -22,7 +23,6 @@ use Rattle.request_file_transfer.specs.Writing.{requestOf}
 use Rattle.request_file_transfer.specs.declared.read.RequestFileTransferRequest.{RequestFileTransferRequest}
 use Rattle.request_file_transfer.specs.declared.read.RequestAnswer.{RequestAnswer}
 use Rattle.request_file_transfer.proofs.Laid as laid
-use Rattle.request_line.proofs.Writable.{writable}
 
 -- the input is too long
 pub too-long : (s : List ℕ) → 4096 < length s → tooLong ≡ lineOf s
@@ -46,9 +46,7 @@ module _ (s : List ℕ) (q : RequestFileTransferRequest) (tail : ℕ) {name : Li
 
   -- a refusal: there is none, since what was read can be written
   pub no-refusal : {e : Refusal} → Bytes s → refused e ≡ wanted → ⊥
-  no-refusal bytes said =
-      let (short, utf8) = writable s bytes (right .paper) in
-      never (said ∙ ap lengthIn (laid.good (q .kind) name (q .size) 0 (rw part short) (rw part utf8)))
+  no-refusal bytes said = never (said ∙ ap lengthIn (laid.good (q .kind) name (q .size) 0 (rw part (request-name s bytes (sym (right .paper)) .0))))
 
   -- a number: that of the bytes of the request, whatever its format byte
   normal-is : {n : ℕ} → accepted n ≡ wanted → n ≡ length (requestBytes (meant s q))

@@ -1,6 +1,7 @@
+-- To be read by whoever writes a function over a struct that holds a slice; everyone else can skip it: what such a function promises stands in its contract.
 -- Functions over a struct that holds one slice of bytes, whatever the struct's name: each is a walk of its MIR, by hand, since the prover's own walk does not cover a struct that holds a reference.
 --     Holder       such a struct: its name, its record, the slice of a record, and the record of a slice.        nameOf       its name, out of its own module
---     made         fn new(s: &'a [u8]) -> S<'a> { S { field: s } }
+--     made         fn new(s: &'a [u8]) -> S<'a> { S { field: part(s) } }, where `part` is a function of a slice that the prover covers
 --     taken        fn field(self) -> &'a [u8] { self.field }
 --     lent         fn held(&self) -> &'a [u8] { self.field }
 --     placed       fn at<'a>(s: &'a [u8], place: Place) -> S<'a> { S { field: part_at(s, place) } }
@@ -31,7 +32,7 @@ use types.Kit.{fsplit, fsplit3, fjoin, fjoin3, feqI, suffices, frame, await, don
 use types.Part.{whole, sub, look-in, agg}
 use types.Run.{look, init, forget, stop, hop, fld, from, load, of-opd, and-then, no-more, assigns, land, returns, enter, alloc1, alloc0, params1, pass1, pass0, free1, free0}
 use sound.WpLaws.{FmC, fmOf, WpFn-mono}
-use denote.RattleType.{RattleType, flat, owns}
+use denote.RattleType.{RattleType, Denots, Valss, flat, owns}
 use denote.Laws.{Is, Ises, Are, Spells, valss, Tellss, shows}
 use denote.Memory.{partAt, cellAt}
 use denote.Builtin.{u8}
@@ -118,6 +119,16 @@ nameOf struct = struct (record { mir = erased; lft = [] }) .name
 abbrev holding : Val → Val
 holding u = vstruct (vcons u vnil)
 
+-- ---- a function of a slice, which calls another with it
+abbrev pub sliceT : Slot 1 → Ended
+sliceT r = oneLft (bytesSlot ∷ []) (yes, tt) r
+
+abbrev sliceStays : (r : Slot 1) → Stays (sliceT r .signature .params) (sliceT r .kept)
+sliceStays r = (stay-none-slice (0 ∷ []) tt (plain (λ _. u8)) yes, tt)
+
+abbrev pub partT : Ended
+partT = sliceT bytesSlot
+
 -- ---- a function of a slice and a place, which calls another with both
 abbrev pub placeT : Slot 1 → Ended
 placeT r = oneLft (bytesSlot ∷ plain (λ _. Pl.the-row) ∷ []) (yes, (yes, tt)) r
@@ -168,24 +179,21 @@ module _ (h : Holder) where
   abbrev holderSlot : Slot 1
   holderSlot = plain (λ κs. row (type (namedLft 1 0 tt κs)))
 
-  -- made
+  -- made, of what the function k₁ hands back, which promises φ
   abbrev pub madeT : Ended
-  madeT = oneLft (bytesSlot ∷ []) (yes, tt) holderSlot
+  madeT = sliceT holderSlot
 
-  abbrev pub madeFn : Fn
-  madeFn = record {
+  abbrev pub madeFn : Name → Fn
+  madeFn k₁ = record {
     lifetimes = 1;
     outlives = [];
     params = 1;
-    locals = local (holderTy (named 0)) valueLocal ∷ local (bytesTy (named 0)) valueLocal ∷ [];
-    body = seq (assign (place 0 []) (aggregate (copy (place 1 []) ∷ []))) return;
+    locals = local (holderTy (named 0)) valueLocal ∷ local (bytesTy (named 0)) valueLocal ∷ local (bytesTy erased) valueLocal ∷ [];
+    body = seq (call k₁ (copy (place 1 []) ∷ []) (place 2 [])) (seq (assign (place 0 []) (aggregate (copy (place 2 []) ∷ []))) return);
   }
 
-  abbrev pub Makes : {M : Type 1} (𝓤 : URA M) → Clauses 𝓤 madeT → Type 1
-  Makes 𝓤 c = (κs : Lfts 1) (s : RefT (List ℕ)) → Ensures 𝓤 madeT c κs (s, tt) (h .make s)
-
-  abbrev madeStays : Stays (madeT .signature .params) (madeT .kept)
-  madeStays = (stay-none-slice (0 ∷ []) tt (plain (λ _. u8)) yes, tt)
+  abbrev pub Makes : {M : Type 1} (𝓤 : URA M) → Fact partT → Clauses 𝓤 madeT → Type 1
+  Makes 𝓤 φ c = (κs : Lfts 1) (s r : RefT (List ℕ)) → φ κs (s, tt) r → Ensures 𝓤 madeT c κs (s, tt) (h .make r)
 
   -- taken
   abbrev pub takenT : Ended
@@ -277,7 +285,19 @@ module _ {M : Type 1} (𝓤 : URA M) (H : Heap 𝓤) (A : Atoms 𝓤) (W : Given
         split t $ move t (1 ∷ []) $ use1 W (raw (fact 𝓤 (φ (κ, tt) a y))) (exE 𝓤 _ (λ ws. snd∗ 𝓤 (sem 𝓤 H A (lasts (oneLft ps ks r) (κ, tt) a ws)) (fact 𝓤 (φ (κ, tt) a y)))) $ heard t (φ (κ, tt) a y) (λ e. split t $ move t (1 ∷ []) $
         peeks t (r .row (κ, tt)) (Is (r .row (κ, tt))) (shows 𝓤 H A (r .row (κ, tt))) y (u ∷ []) (λ is. k y e is)))
 
-  -- ---- a function of a slice and a place: how it calls another with both, and how it ends
+  -- ---- how a function calls another with its parameters, the first of which is a slice. A slice is Copy: what it owns is had twice, once for the function that is called
+  module _ (κ : Lft) (q : Share) (s : RefT (List ℕ)) (ts : List RattleType) (a : Denots ts) (vss : Valss ts) where
+    abbrev Entered : SProp 𝓤
+    Entered = sep 𝓤 (sep 𝓤 (sem 𝓤 H A (flft κ q)) (sem 𝓤 H A ftrue)) (sem 𝓤 H A (owns (Bytes (α κ) ∷ ts) (s, a) (slice s ∷ [], vss)))
+
+    calling : ent 𝓤 Entered (sep 𝓤 (sep 𝓤 Entered (emp 𝓤)) (sem 𝓤 H A (Bytes (α κ) .own s (slice s ∷ []))))
+    calling =
+        let all : Fml = owns (Bytes (α κ) ∷ ts) (s, a) (slice s ∷ [], vss) in
+        let own : Fml = Bytes (α κ) .own s (slice s ∷ []) in
+        qed W ((‵ (flft κ q) ⊛ ‵ ftrue) ∷ ‵ all ∷ []) ∵ move ! (1 ∷ []) $ fsplit ! $ use1 W (‵ own ⊛ ‵ own) (shr-slice-copy 𝓤 H A W (named 0) κ u8 .twice s (slice s ∷ [])) $ split ! $ move ! (0 ∷ 2 ∷ []) $ fjoin ! $ move ! (2 ∷ 0 ∷ []) $
+        use2 W (raw (sep 𝓤 Entered (emp 𝓤))) (qed W ((‵ (flft κ q) ⊛ ‵ ftrue) ∷ ‵ all ∷ []) ∵ join ! $ frame ! $ done !) $ frame ! $ done !
+
+  -- ---- a function of a slice and a place: how it ends
   module _ (κ : Lft) (q : Share) (s : RefT (List ℕ)) (p : Place) where
     abbrev placeY : Bound 𝓤 H A (handedT .signature)
     placeY = ((κ, tt), (q, tt), tt, (s, (p, tt)), (slice s ∷ [], (Pl′.lowered p ∷ [], tt)))
@@ -287,13 +307,6 @@ module _ {M : Type 1} (𝓤 : URA M) (H : Heap 𝓤) (A : Atoms 𝓤) (W : Given
 
     abbrev SliceOwn : Fml
     SliceOwn = Bytes (α κ) .own s (slice s ∷ [])
-
-    -- a slice is Copy: what it owns is had twice, once for the function that is called
-    calling : ent 𝓤 PlaceIn (sep 𝓤 (sep 𝓤 PlaceIn (emp 𝓤)) (sem 𝓤 H A SliceOwn))
-    calling =
-        qed W ((‵ (flft κ q) ⊛ ‵ ftrue) ∷ ‵ (owns (Bytes (α κ) ∷ Pl.the-row ∷ []) (s, (p, tt)) (placeY .4)) ∷ []) ∵
-        move ! (1 ∷ []) $ fsplit ! $ use1 W (‵ SliceOwn ⊛ ‵ SliceOwn) (shr-slice-copy 𝓤 H A W (named 0) κ u8 .twice s (slice s ∷ [])) $ split ! $ move ! (0 ∷ 2 ∷ []) $ fjoin ! $ move ! (2 ∷ 0 ∷ []) $
-        use2 W (raw (sep 𝓤 PlaceIn (emp 𝓤))) (qed W ((‵ (flft κ q) ⊛ ‵ ftrue) ∷ ‵ (owns (Bytes (α κ) ∷ Pl.the-row ∷ []) (s, (p, tt)) (placeY .4)) ∷ []) ∵ join ! $ frame ! $ done !) $ frame ! $ done !
 
     module _ (r : Slot 1) (c : Clauses 𝓤 (placeT r)) (g : c (κ, tt) (s, (p, tt)) .ghost) where
       abbrev PlaceOut : Val → SProp 𝓤
@@ -323,29 +336,41 @@ module _ {M : Type 1} (𝓤 : URA M) (H : Heap 𝓤) (A : Atoms 𝓤) (W : Given
         learn ! (λ _. use1 W (‵ (ownAt parts (laws h a) 0 (h .get d)) ⊛ ‵ (rest parts (laws h a) 0 (h .get d, tt))) (own-out 𝓤 H A W parts (laws h a) 0 (h .get d, tt)) $ split ! $ move ! (1 ∷ []) $ drop ! $ done !)
 
     -- ---- made
-    module _ (c : Clauses 𝓤 (madeT h)) (holds : Makes h 𝓤 c) (κ : Lft) (q : Share) (s : RefT (List ℕ)) (g : c (κ, tt) (s, tt) .ghost) where
+    -- a struct of the machine value of a slice has the struct's type
+    holding-typed : (r : RefT (List ℕ)) (u : Val) → u ≡ slice r → Holds (hasTy (holderTy h (named 0)) (holding u))
+    holding-typed r u is = subst (λ (w : Val). Holds (hasTy (holderTy h (named 0)) (holding w))) (sym is) tt
+
+    module _ (κ : Lft) (q : Share) (s : RefT (List ℕ)) where
       abbrev madeY : Bound 𝓤 H A (madeT h .signature)
       madeY = ((κ, tt), (q, tt), tt, (s, tt), (slice s ∷ [], tt))
 
       abbrev MadeIn : SProp 𝓤
       MadeIn = onEntry 𝓤 H A (madeT h .signature) (κ, tt) (q, tt) (s, tt) (madeY .4)
 
-      abbrev MadeOut : Val → SProp 𝓤
-      MadeOut = walkOf 𝓤 H A (madeT h) (madeStays h) c .post (madeY, g)
+      module _ (c : Clauses 𝓤 (madeT h)) (g : c (κ, tt) (s, tt) .ghost) where
+        abbrev MadeOut : Val → SProp 𝓤
+        MadeOut = walkOf 𝓤 H A (madeT h) (sliceStays (holderSlot h)) c .post (madeY, g)
 
-      -- a slice is Copy: what it owns is had twice, once for the parameter at exit and once for the struct
-      made-exits : ent 𝓤 MadeIn (MadeOut (holding (slice s)))
-      made-exits =
-          qed W ((‵ (flft κ q) ⊛ ‵ ftrue) ∷ ‵ (owns (Bytes (α κ) ∷ []) (s, tt) (madeY .4)) ∷ []) ∵
-          suffices ! _ (ends-at 𝓤 H A (madeT h) (madeStays h) c W (madeY, g) (holding (slice s)) (h .make s) (tt, tt) (tt, tt)) $ beside ! (holds (κ, tt) s g _) $ frame ! $ fsplit ! $
-          use1 W (‵ (Bytes (α κ) .own s (slice s ∷ [])) ⊛ ‵ (Bytes (α κ) .own s (slice s ∷ []))) (shr-slice-copy 𝓤 H A W (named 0) κ u8 .twice s (slice s ∷ [])) $ split ! $ move ! (0 ∷ 2 ∷ []) $ fjoin ! $ frame ! $ by ! (shut (α κ) s (slice s) refl)
+        made-exits : (d : h .D) (u : Val) → Ensures 𝓤 (madeT h) c (κ, tt) (s, tt) d
+            → ent 𝓤 (⋆ 𝓤 H A (‵ (row (type h (α κ)) .own d (u ∷ [])) ∷ (‵ (flft κ q) ⊛ ‵ ftrue) ∷ ‵ (Bytes (α κ) .own s (slice s ∷ [])) ∷ [])) (MadeOut u)
+        made-exits d u holds =
+            qed W (‵ (row (type h (α κ)) .own d (u ∷ [])) ∷ (‵ (flft κ q) ⊛ ‵ ftrue) ∷ ‵ (Bytes (α κ) .own s (slice s ∷ [])) ∷ []) ∵
+            suffices ! _ (ends-at 𝓤 H A (madeT h) (sliceStays (holderSlot h)) c W (madeY, g) u d (tt, tt) (tt, tt)) $ beside ! (holds g _) $
+            move ! (1 ∷ []) $ frame ! $ nothing ! $ move ! (2 ∷ 0 ∷ []) $ fjoin ! $ frame ! $ done !
 
-      made-walk : (C : Calls 𝓤 H) (Λ : Loops 𝓤 H) → Is (Bytes (α κ)) s (slice s ∷ []) → ent 𝓤 MadeIn (WpFn 𝓤 H C Λ (madeFn h) (slice s ∷ []) MadeOut)
-      made-walk C Λ is =
-          let typed = shr-slice-lawful 𝓤 H A W (named 0) κ u8 .typed s (slice s ∷ []) is .0 in
-          qed W (raw MadeIn ∷ []) ∵ enter ! C Λ (madeFn h) (slice s ∷ []) _ $ alloc1 ! (λ l₀. alloc1 ! (λ l₁. alloc0 ! $ params1 ! $ pass1 ! (init ! 0 refl typed) $ pass0 ! $
-          assigns ! (agg ! (and-then ! (load ! (from ! (stop !)) (look ! 0 refl)) (no-more !))) (from ! (stop !)) (init ! 2 refl (tt, (typed .1, tt))) $
-          returns ! (look ! 2 refl) $ forget ! 0 refl $ forget ! 2 refl $ move ! (2 ∷ 3 ∷ []) $ free1 ! $ free1 ! $ free0 ! $ by ! made-exits))
+        made-walk : (C : Calls 𝓤 H) (Λ : Loops 𝓤 H) → FmC 𝓤 H (W .laws) C → Is (Bytes (α κ)) s (slice s ∷ []) → (φ : Fact partT) (k₁ : Name) → Triple 𝓤 (C k₁) (Promised 𝓤 H A partT φ) → Makes h 𝓤 φ c
+            → ent 𝓤 MadeIn (WpFn 𝓤 H C Λ (madeFn h k₁) (slice s ∷ []) MadeOut)
+        made-walk C Λ fm is φ k₁ known holds =
+            qed W (raw MadeIn ∷ []) ∵ enter ! C Λ (madeFn h k₁) (slice s ∷ []) _ $ alloc1 ! (λ l₀. alloc1 ! (λ l₁. alloc1 ! (λ l₂. alloc0 ! $ params1 ! $ pass1 ! (init ! 2 refl (shr-slice-lawful 𝓤 H A W (named 0) κ u8 .typed s (slice s ∷ []) is .0)) $ pass0 ! $
+            move ! (6 ∷ []) $ use1 W (raw (sep 𝓤 MadeIn (emp 𝓤)) ⊛ ‵ (Bytes (α κ) .own s (slice s ∷ []))) (calling κ q s [] tt tt) $ split ! $
+            -- [what the call asks; what s owns; room for _2; …; _1; …; room for _0; …]
+            calls-at ! fm (Promised 𝓤 H A partT φ) known (madeY, tt) (and-then ! (load ! (from ! (stop !)) (look ! 4 refl)) (no-more !)) (λ u.
+            answered ! tt (partT .signature .params) (partT .kept) bytesSlot φ κ q (s, tt) (madeY .4) u (λ r e isr.
+            -- [what r owns; the token; what s owns; room for _2; …; _1; …; room for _0; …]
+            land ! (from ! (stop !)) (init ! 3 refl (shr-slice-lawful 𝓤 H A W erased κ u8 .typed r (u ∷ []) isr .0)) $
+            assigns ! (agg ! (and-then ! (load ! (from ! (stop !)) (look ! 3 refl)) (no-more !))) (from ! (stop !)) (init ! 7 refl (holding-typed r u (ap first (isr .0 .0)), (shr-slice-lawful 𝓤 H A W (named 0) κ u8 .typed r (u ∷ []) isr .0 .1, tt))) $
+            returns ! (look ! 7 refl) $ forget ! 3 refl $ forget ! 5 refl $ forget ! 7 refl $ move ! (7 ∷ 8 ∷ []) $ free1 ! $ move ! (5 ∷ 6 ∷ []) $ free1 ! $ move ! (3 ∷ 4 ∷ []) $ free1 ! $ free0 ! $
+            use1 W (‵ (row (type h (α κ)) .own (h .make r) (holding u ∷ []))) (shut (α κ) r u (ap first (isr .0 .0))) $ by ! (made-exits (h .make r) (holding u) (holds (κ, tt) s r e)))))))
 
     -- ---- taken
     module _ (c : Clauses 𝓤 (takenT h)) (holds : Takes h 𝓤 c) (κ : Lft) (q : Share) (d : h .D) (g : c (κ, tt) (d, tt) .ghost) where
@@ -414,10 +439,6 @@ module _ {M : Type 1} (𝓤 : URA M) (H : Heap 𝓤) (A : Atoms 𝓤) (W : Given
             returns ! (look ! 8 refl) $ forget ! 6 refl $ forget ! 8 refl $ move ! (8 ∷ 9 ∷ []) $ free1 ! $ move ! (6 ∷ 7 ∷ []) $ free1 ! $ free0 ! $ keep ! (0 ∷ 1 ∷ 2 ∷ 3 ∷ 4 ∷ []) $ by ! lent-exits))))
 
     -- ---- placed, handed
-    -- a struct of the machine value of a slice has the struct's type
-    holding-typed : (r : RefT (List ℕ)) (u : Val) → u ≡ slice r → Holds (hasTy (holderTy h (named 0)) (holding u))
-    holding-typed r u is = subst (λ (w : Val). Holds (hasTy (holderTy h (named 0)) (holding w))) (sym is) tt
-
     -- what the function that takes the slice out asks
     passes : (κ : Lft) (q : Share) (d : h .D) (u : Val)
         → ent 𝓤 (⋆ 𝓤 H A (‵ (row (type h (α κ)) .own d (u ∷ [])) ∷ (‵ (flft κ q) ⊛ ‵ ftrue) ∷ [])) (Promised 𝓤 H A (takenT h) (takenFact h) .pre (((κ, tt), (q, tt), tt, (d, tt), (u ∷ [], tt)), tt))
@@ -430,7 +451,7 @@ module _ {M : Type 1} (𝓤 : URA M) (H : Heap 𝓤) (A : Atoms 𝓤) (W : Given
       placed-walk known c holds g =
           qed W (raw (PlaceIn κ q s p) ∷ []) ∵ enter ! C Λ (placedFn h) (slice s ∷ Pl′.lowered p ∷ []) _ $ alloc1 ! (λ l₀. alloc1 ! (λ l₁. alloc1 ! (λ l₂. alloc1 ! (λ l₃. alloc0 ! $ params1 ! $
           pass1 ! (init ! 4 refl (shr-slice-lawful 𝓤 H A W (named 0) κ u8 .typed s (slice s ∷ []) is .0)) $ pass1 ! (init ! 2 refl (LL.lawful Pl.the-type Pl′.the-laws 𝓤 H A W .typed p _ isp .0)) $ pass0 ! $
-          move ! (8 ∷ []) $ use1 W (raw (sep 𝓤 (PlaceIn κ q s p) (emp 𝓤)) ⊛ ‵ (SliceOwn κ q s p)) (calling κ q s p) $ split ! $
+          move ! (8 ∷ []) $ use1 W (raw (sep 𝓤 (PlaceIn κ q s p) (emp 𝓤)) ⊛ ‵ (SliceOwn κ q s p)) (calling κ q s (Pl.the-row ∷ []) (p, tt) (Pl′.lowered p ∷ [], tt)) $ split ! $
           -- [what the call asks; what s owns; room for _3; …; _2; …; _1; …; room for _0; …]
           calls-at ! fm (Promised 𝓤 H A handedT partFact) known (placeY κ q s p, tt) (and-then ! (load ! (from ! (stop !)) (look ! 6 refl)) (and-then ! (load ! (from ! (stop !)) (look ! 4 refl)) (no-more !))) (λ u.
           answered ! tt (handedT .signature .params) (handedT .kept) bytesSlot partFact κ q (s, (p, tt)) (placeY κ q s p .4) u (λ r e isr.
@@ -446,7 +467,7 @@ module _ {M : Type 1} (𝓤 : URA M) (H : Heap 𝓤) (A : Atoms 𝓤) (W : Given
       handed-walk k₁ k₂ known₁ known₂ c holds g =
           qed W (raw (PlaceIn κ q s p) ∷ []) ∵ enter ! C Λ (handedFn h k₁ k₂) (slice s ∷ Pl′.lowered p ∷ []) _ $ alloc1 ! (λ l₀. alloc1 ! (λ l₁. alloc1 ! (λ l₂. alloc1 ! (λ l₃. alloc0 ! $ params1 ! $
           pass1 ! (init ! 4 refl (shr-slice-lawful 𝓤 H A W (named 0) κ u8 .typed s (slice s ∷ []) is .0)) $ pass1 ! (init ! 2 refl (LL.lawful Pl.the-type Pl′.the-laws 𝓤 H A W .typed p _ isp .0)) $ pass0 ! $
-          move ! (8 ∷ []) $ use1 W (raw (sep 𝓤 (PlaceIn κ q s p) (emp 𝓤)) ⊛ ‵ (SliceOwn κ q s p)) (calling κ q s p) $ split ! $
+          move ! (8 ∷ []) $ use1 W (raw (sep 𝓤 (PlaceIn κ q s p) (emp 𝓤)) ⊛ ‵ (SliceOwn κ q s p)) (calling κ q s (Pl.the-row ∷ []) (p, tt) (Pl′.lowered p ∷ [], tt)) $ split ! $
           -- [what the call asks; what s owns; room for _3; …; _2; …; _1; …; room for _0; …]
           calls-at ! fm (Promised 𝓤 H A (placedT h) (placedFact h)) known₁ (placeY κ q s p, tt) (and-then ! (load ! (from ! (stop !)) (look ! 6 refl)) (and-then ! (load ! (from ! (stop !)) (look ! 4 refl)) (no-more !))) (λ u.
           answered ! tt (placedT h .signature .params) (placedT h .kept) (holderSlot h) (placedFact h) κ q (s, (p, tt)) (placeY κ q s p .4) u (λ d e isd.
@@ -492,10 +513,11 @@ module _ {M : Type 1} (𝓤 : URA M) (H : Heap 𝓤) (𝓜 : Model 𝓤 H) (𝓖
         (walk-meets 𝓤 H (𝓖 .A) T hs W gs c (WpFn 𝓤 H C Λ f) (WpFn-mono 𝓤 H (W .laws) (tablesOf 𝓤 H 𝓜 (tables 𝓤 H 𝓜 𝓡 γ)) f)
         (walked 𝓤 H (𝓖 .A) T hs c (WpFn 𝓤 H C Λ f) sp tells (λ κs qs bounds a g are. via 𝓤 _ (fst∗ 𝓤 _ (c κs a .requires g)) (walk κs qs bounds a g are))))
 
-  pub made : Closed 𝓤 H C Λ k (madeFn h) → (c : Clauses 𝓤 (madeT h)) → Makes h 𝓤 c → Met (madeT h) c
-  made closed c holds =
-      arrives (madeT h) (madeStays h) (madeFn h) c (λ κs. (slice-vals, tt)) (goes-none-slice 𝓤 H (𝓖 .A) W 1 (0 ∷ []) tt (plain (λ _. u8)) yes, tt) closed (λ κs. (shr-slice-tells (named 0) (κs .0) u8, tt))
-      (λ κs qs bounds a g are. made-walk 𝓤 H (𝓖 .A) W h c holds (κs .0) (qs .0) (a .0) g C Λ (are .0))
+  pub made : (k₁ : Name) → Closed 𝓤 H C Λ k (madeFn h k₁) → (r₁ : Routine) → γ k₁ ≡ r₁ → (φ : Fact partT) → Triple 𝓤 (𝓡 .run r₁) (Promised 𝓤 H (𝓖 .A) partT φ) → (c : Clauses 𝓤 (madeT h)) → Makes h 𝓤 φ c → Met (madeT h) c
+  unfolding tablesOf
+  made k₁ closed r₁ calls φ met c holds =
+      arrives (madeT h) (sliceStays (holderSlot h)) (madeFn h k₁) c (λ κs. (slice-vals, tt)) (goes-none-slice 𝓤 H (𝓖 .A) W 1 (0 ∷ []) tt (plain (λ _. u8)) yes, tt) closed (λ κs. (shr-slice-tells (named 0) (κs .0) u8, tt))
+      (λ κs qs bounds a g are. made-walk 𝓤 H (𝓖 .A) W h (κs .0) (qs .0) (a .0) c g C Λ (fmOf 𝓤 H (W .laws) (tablesOf 𝓤 H 𝓜 (tables 𝓤 H 𝓜 𝓡 γ))) (are .0) φ k₁ (cited 𝓤 H (Promised 𝓤 H (𝓖 .A) partT φ) 𝓜 𝓡 γ k₁ r₁ calls met) holds)
 
   pub taken : Closed 𝓤 H C Λ k (takenFn h) → (c : Clauses 𝓤 (takenT h)) → Takes h 𝓤 c → Met (takenT h) c
   taken closed c holds =

@@ -20,7 +20,7 @@ returns-2 c =
     let part = w .before .before in
     let a = part .before .before .before .before .before in
     let q = subst (RequestRight _) (a .a .given .1) (a .before .before .read-request .ensures) in
-    rw (c .beside-tail .ensures) (reread readRequest writeRequest (q .paper) (q .place .within) (rw (part .part-at .ensures .1) at (w .write-request .ensures)))
+    rw (c .beside-tail .ensures) (reread readRequest writeRequest (q .paper) (q .place .within) (rw (part .name-of .ensures .1) at (w .write-request .ensures)))
 
 pub rewrite-request-spec : {M : Type 1} → statement M
 rewrite-request-spec =

@@ -23,7 +23,7 @@ returns-2 c =
     let a = part .before .before .before .before .before .before in
     let r = subst (ResponseRight _) (a .a .given .1) (a .before .before .read-response .ensures) in
     rw (c .beside-tail .ensures)
-    (reread readResponse writeResponse (r .paper) (r .place .within) (rw (part .part-at .ensures .1) at (w .write-response .ensures)))
+    (reread readResponse writeResponse (r .paper) (r .place .within) (rw (part .block-length-of .ensures .1) at (w .write-response .ensures)))
 
 pub rewrite-response-spec : {M : Type 1} → statement M
 rewrite-response-spec =
