@@ -12,7 +12,7 @@ use Rattle.paper.specs.Sizes.{fit, firstFit, width}
 use Rattle.paper.specs.Kind.{oneOf, readFile, known}
 use Rattle.paper.specs.Field.{part, byte, headed, counted, numbers, sizeGroup, withCount, laid, sizesAt}
 use Rattle.paper.specs.Rewriting.{rewriting}
-use Rattle.paper.specs.Response.{response, readResponse, responseAt, responseBytes, asRead, writeResponse, rewriteResponse}
+use Rattle.paper.specs.Response.{response, readResponse, responseAt, responseBytes, asRead, goodBlockLength, writeResponse, rewriteResponse}
 use Rattle.wire.proofs.Unique.{placeOf}
 use Rattle.file_operation.specs.Calls.{Example}
 use Rattle.file_operation.specs.declared.mode.FileOperationMode.the-variants.{ReadFile}
@@ -31,7 +31,7 @@ narrow = 0x04 ∷ 0x00 ∷ 0x11 ∷ 0x00 ∷ 0x02 ∷ 0x00 ∷ 0xFF ∷ 0x01 ∷
 
 on-paper : (readResponse wide ≡ accepted (response readFile [] 0x11 255 256 0 leaving [])) × (rewriteResponse wide ≡ accepted (narrow leaving []))
 unfolding _>>=_ give ofBytes toBytes fit firstFit width oneOf known part byte headed counted numbers sizeGroup withCount laid sizesAt
-    rewriting readResponse responseAt responseBytes asRead writeResponse rewriteResponse
+    rewriting readResponse responseAt responseBytes asRead goodBlockLength writeResponse rewriteResponse
 on-paper = (refl, refl)
 
 -- what is read from either
