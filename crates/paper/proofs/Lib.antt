@@ -12,6 +12,7 @@ pub mod Response
 pub mod RoutineControl
 pub mod TroubleCode
 pub mod Bench
+pub mod Demand3
 pub mod Vectors
 pub mod Codes
 pub mod Lines

@@ -5,11 +5,11 @@ use Prim.Native.Nat.{ℕ, _+_, _*_, _-_, _^_, _≤_, _<_}
 use mathlib.Core.List.{List, [], _∷_, _++_, append-assoc}
 use mathlib.Core.Logic.{_↔_}
 use native.Mathlib.Omega.{arith}
-use borrow.Author.Tests.{le-leb, leb-true}
+use borrow.Author.Tests.{le-leb, leb-true, lt-leb}
 use lib.Dec.{lit<, leb}
 use lib.ListN.{length, take, drop, replicate, length-append, length-replicate}
 use lib.Seq.{take-at}
-use Rattle.paper.specs.Answer.{accepted, wrongFormat, check, _leaving_}
+use Rattle.paper.specs.Answer.{accepted, refused, wrongFormat, check, _leaving_}
 use Rattle.paper.specs.Bytes.{Bytes, toBytes}
 use Rattle.paper.specs.Sizes.{Fit, Holds, fit, firstFit, width}
 use Rattle.paper.specs.Utf8.{isUtf8}
@@ -220,6 +220,11 @@ unfolding writeRequest
 accepts m w =
     let (twice, same, named) = ignored (m .kind) (m .name) (m .format) (m .uncompressed) (m .compressed) in
     rw (good-name (m .name) (m .name) .1 (refl, rw named at (w .named)))
+
+-- a name over 65,535 bytes is
+pub name-too-long : (m : Request) → 65535 < length (m .name) → writeRequest m ≡ refused wrongFormat
+unfolding goodName writeRequest
+name-too-long m many = rw (lt-leb _ _ many)
 
 -- demand 3 holds of requests
 pub request-demand-3 : Demand3 Request readRequest rewriteRequest

@@ -14,7 +14,7 @@ use Rattle.paper.specs.Answer.{wrongFormat, unknownSubFunction, accepted
 use Rattle.paper.specs.Bytes.{Bytes, ofBytes, toBytes}
 use Rattle.paper.specs.Kind.{oneOf}
 use Rattle.paper.specs.Field.{part}
-use Rattle.paper.specs.Rewriting.{WholeLayout}
+use Rattle.paper.specs.Rewriting.{WholeLayout, Message}
 use Rattle.paper.specs.RoutineControl.{SubFunction, startRoutine, stopRoutine, requestRoutineResults, byteOf, subFunctions, knownSub, RoutineRequest, RoutineResponse, RoutineBytes, routineBytes, wholeRest, readRoutineRequest, readRoutineResponse, routineRequestBytes, routineResponseBytes, routineLaid, controlByte, RoutineRequestWay, RoutineResponseWay, writeRoutineRequest, writeRoutineResponse}
 use Rattle.paper.proofs.Bytes.{bytes-right, bytes-append, below-length, of-length, of-to, length-toBytes, bytes-toBytes}
 use Rattle.paper.proofs.Codec.{Wire, Reads, Then, onward-is, reads-as, reads-map, Kept, always}
@@ -244,17 +244,17 @@ pub routine-response-layout : WholeLayout readRoutineResponse RoutineResponseWay
 unfolding readRoutineResponse
 routine-response-layout = reads-routine RoutineResponse (λ (c : ℕ). c) responseOf (λ m u. (response-there m u, response-back m u))
 
--- ---- writing: the identifier is a number of two bytes and the record consists of bytes, as the types of the code say of every argument
+-- ---- writing
 bytes-laid : (b n : ℕ) (r : List ℕ) → b < 256 → n < 65536 → Bytes r → Bytes (routineLaid b n r)
 bytes-laid b n r small fits plain = (small, bytes-append (toBytes 2 n) r (bytes-toBytes 2 n fits) plain)
 
--- a routine request with a record of at most 65,535 bytes is written, and what is written reads back with the same fields and nothing left over
-pub request-round : (m : RoutineRequest) → m .identifier < 65536 → Bytes (m .«record») → length (m .«record») ≤ 65535
-    → (u : List ℕ) × (writeRoutineRequest m ≡ accepted u) × (readRoutineRequest u ≡ accepted (m leaving []))
+-- a routine request with a record of at most 65,535 bytes is written in its one way, and what is written reads back with the same fields and nothing left over
+pub request-round : (m : RoutineRequest) (u : List ℕ) → RoutineRequestWay m u → length (m .«record») ≤ 65535
+    → (writeRoutineRequest m ≡ accepted u) × Message RoutineRequest readRoutineRequest u m
 unfolding writeRoutineRequest routineRequestBytes
-request-round m identifier plain few =
-    let bytes = bytes-laid _ (m .identifier) (m .«record») (control (m .suppress) (m .subFunction) .small) identifier plain in
-    (routineRequestBytes m, rw (le-leb _ _ few), routine-request-layout _ m [] bytes .1 (record { identifier = identifier; bytes = plain; is = refl }, refl))
+request-round m u v few =
+    let bytes : Bytes u = rw (v .is) (bytes-laid _ (m .identifier) (m .«record») (control (m .suppress) (m .subFunction) .small) (v .identifier) (v .bytes)) in
+    (rw (le-leb _ _ few, v .is), record { bytes = bytes; whole = routine-request-layout u m [] bytes .1 (v, refl) })
 
 -- a longer record is refused
 pub request-too-long : (m : RoutineRequest) → 65535 < length (m .«record») → writeRoutineRequest m ≡ refused wrongFormat
@@ -262,12 +262,13 @@ unfolding writeRoutineRequest
 request-too-long m many = rw (lt-leb _ _ many)
 
 -- the same of a routine response
-pub response-round : (m : RoutineResponse) → m .identifier < 65536 → Bytes (m .«record») → length (m .«record») ≤ 65535
-    → (u : List ℕ) × (writeRoutineResponse m ≡ accepted u) × (readRoutineResponse u ≡ accepted (m leaving []))
+pub response-round : (m : RoutineResponse) (u : List ℕ) → RoutineResponseWay m u → length (m .«record») ≤ 65535
+    → (writeRoutineResponse m ≡ accepted u) × Message RoutineResponse readRoutineResponse u m
 unfolding writeRoutineResponse routineResponseBytes
-response-round m identifier plain few =
-    let bytes = bytes-laid (byteOf (m .subFunction)) (m .identifier) (m .«record») (omega (arith, control false (m .subFunction) .small)) identifier plain in
-    (routineResponseBytes m, rw (le-leb _ _ few), routine-response-layout _ m [] bytes .1 (record { identifier = identifier; bytes = plain; is = refl }, refl))
+response-round m u v few =
+    let small : byteOf (m .subFunction) < 256 = omega (arith, control false (m .subFunction) .small) in
+    let bytes : Bytes u = rw (v .is) (bytes-laid _ (m .identifier) (m .«record») small (v .identifier) (v .bytes)) in
+    (rw (le-leb _ _ few, v .is), record { bytes = bytes; whole = routine-response-layout u m [] bytes .1 (v, refl) })
 
 pub response-too-long : (m : RoutineResponse) → 65535 < length (m .«record») → writeRoutineResponse m ≡ refused wrongFormat
 unfolding writeRoutineResponse
