@@ -7,7 +7,12 @@ use mathlib.Core.List.{List, [], _∷_, map}
 use Rattle.paper.specs.Answer.{refusal, accepted, refused, _leaving_, _>>=_, give}
 use Rattle.paper.specs.Field.{part, byte}
 use Rattle.paper.specs.RoutineControl.{fileTransferNegativeCodes, routineNegativeCodes}
-use Rattle.paper.specs.TroubleCode.{troubleCode, wireSize, allCodes, numberOf, fromNumber, readTroubleCode, none, next, nextTroubleCode, troubleCodeBytes, oneByteField, testFailed, testFailedThisOperationCycle, pendingDtc, confirmedDtc, testNotCompletedSinceLastClear, testFailedSinceLastClear, testNotCompletedThisOperationCycle, warningIndicatorRequested, matches, dtcClass, maintenanceOnly, checkAtNextHalt, checkImmediately, severityValid, emissions, safety, legislative, vobd, reservedGroup, groupOf, saeJ2012DaFormat00, iso14229-1, saeJ1939-73, iso11992-4, saeJ2012DaFormat04, reservedFormat, formatOf, reservedRecordNumber}
+use Rattle.paper.specs.TroubleCode.{troubleCode, wireSize, allCodes, numberOf, fromNumber, readTroubleCode, none, next, nextTroubleCode}
+use Rattle.paper.specs.TroubleCode.{troubleCodeBytes, oneByteField, testFailed, testFailedThisOperationCycle, pendingDtc, confirmedDtc}
+use Rattle.paper.specs.TroubleCode.{testNotCompletedSinceLastClear, testFailedSinceLastClear, testNotCompletedThisOperationCycle}
+use Rattle.paper.specs.TroubleCode.{warningIndicatorRequested, matches, dtcClass, maintenanceOnly, checkAtNextHalt, checkImmediately}
+use Rattle.paper.specs.TroubleCode.{severityValid, emissions, safety, legislative, vobd, reservedGroup, groupOf, saeJ2012DaFormat00}
+use Rattle.paper.specs.TroubleCode.{iso14229-1, saeJ1939-73, iso11992-4, saeJ2012DaFormat04, reservedFormat, formatOf, reservedRecordNumber}
 
 -- the number of a code, high byte first, and its three bytes; the largest number and the one above it
 numbers : (numberOf (troubleCode 1 2 3) ≡ 0x010203) × (troubleCodeBytes (troubleCode 1 2 3) ≡ 1 ∷ 2 ∷ 3 ∷ []) × (fromNumber 0x010203 ≡ accepted (troubleCode 1 2 3))

@@ -16,7 +16,9 @@ use Rattle.paper.specs.Utf8.{isUtf8}
 use Rattle.paper.specs.Kind.{Kind, addFile, deleteFile, replaceFile, readFile, readDir, resumeFile, modeOf}
 use Rattle.paper.specs.Field.{firstSize, secondSize, withCount, sizesAt}
 use Rattle.paper.specs.Rewriting.{Layout, Message, Demand3}
-use Rattle.paper.specs.Request.{Request, request, AfterName, formatAndSizes, nothing, formatOnly, afterName, readAfterName, readRequest, requestSizes, writeAfterName, requestAt, requestBytes, goodName, writeRequest, rewriteRequest, IsName, WritableRequest, keptAfterName, asRead, RequestWay}
+use Rattle.paper.specs.Request.{Request, request, AfterName, formatAndSizes, nothing, formatOnly, afterName, readAfterName, readRequest}
+use Rattle.paper.specs.Request.{requestSizes, writeAfterName, requestAt, requestBytes, goodName, writeRequest, rewriteRequest, IsName}
+use Rattle.paper.specs.Request.{WritableRequest, keptAfterName, asRead, RequestWay}
 use Rattle.paper.proofs.Choice.{check-passed, then-passed}
 use Rattle.paper.proofs.Utf8.{is-utf8, utf8-bytes, utf8-letters}
 use Rattle.paper.proofs.Bytes.{length-toBytes}

@@ -14,7 +14,10 @@ use Rattle.paper.specs.Sizes.{Fit, Holds, fit, firstFit, width}
 use Rattle.paper.specs.Kind.{Kind, addFile, deleteFile, replaceFile, readFile, readDir, resumeFile, modeOf}
 use Rattle.paper.specs.Field.{firstSize, secondSize, withCount, sizesAt}
 use Rattle.paper.specs.Rewriting.{Layout, Message, Demand3}
-use Rattle.paper.specs.Response.{Response, response, AfterFormat, nothing, twoSizes, oneSize, place, AfterMode, ended, blockAndFormat, afterMode, readAfterFormat, readAfterMode, readResponse, sizesOf, responseSizes, writeAfterFormat, writeAfterMode, responseAt, responseBytes, keptAfterFormat, keptAfterMode, asRead, goodBlockLength, writeResponse, rewriteResponse, WritableResponse, ResponseWay}
+use Rattle.paper.specs.Response.{Response, response, AfterFormat, nothing, twoSizes, oneSize, onePosition, AfterMode, ended, blockAndFormat}
+use Rattle.paper.specs.Response.{afterMode, readAfterFormat, readAfterMode, readResponse, sizesOf, responseSizes, writeAfterFormat}
+use Rattle.paper.specs.Response.{writeAfterMode, responseAt, responseBytes, keptAfterFormat, keptAfterMode, asRead, goodBlockLength}
+use Rattle.paper.specs.Response.{writeResponse, rewriteResponse, WritableResponse, ResponseWay}
 use Rattle.paper.proofs.Choice.{check-passed, then-passed}
 use Rattle.paper.proofs.Bytes.{bytes-replicate, length-toBytes}
 use Rattle.paper.proofs.Sizes.{fit-more, any-width, width-within}
@@ -61,14 +64,14 @@ module _ (k : Kind) (b : List ℕ) (f : ℕ) where
   Steps nothing = Given Response (response k b f 0 0 0)
   Steps twoSizes = Kept (List ℕ) Response always (λ (xs : List ℕ). response k b f (firstSize xs) (secondSize xs) 0) (Sizes 2 2)
   Steps oneSize = Kept (List ℕ) Response always (λ (xs : List ℕ). response k b f (firstSize xs) 0 0) (Sizes 2 1)
-  Steps place = Kept ℕ Response always (λ (p : ℕ). response k b f 0 0 p) (Number 8)
+  Steps onePosition = Kept ℕ Response always (λ (p : ℕ). response k b f 0 0 p) (Number 8)
 
   steps : (h : AfterFormat) → Reads Response (readAfterFormat k b f h) (Steps h)
   unfolding Steps
   steps nothing = reads-give (response k b f 0 0 0)
   steps twoSizes = reads-map (λ (xs : List ℕ). response k b f (firstSize xs) (secondSize xs) 0) (reads-sizes 2 2)
   steps oneSize = reads-map (λ (xs : List ℕ). response k b f (firstSize xs) 0 0) (reads-sizes 2 1)
-  steps place = reads-map (λ (p : ℕ). response k b f 0 0 p) (reads-number 8)
+  steps onePosition = reads-map (λ (p : ℕ). response k b f 0 0 p) (reads-number 8)
 
   -- the kind, the block and the format of a response are those that were read
   here : (h : AfterFormat) (x y p : ℕ) (u : List ℕ) → (let m = response k b f x y p in keptAfterFormat h m ≡ m → Values m
@@ -96,9 +99,9 @@ module _ (k : Kind) (b : List ℕ) (f : ℕ) where
       (here oneSize (firstSize xs) 0 0 u refl
       (record { sizes = (fit-more (holds .within) (firstSize xs ∷ []) (holds .fit) .0, (zero-fits, tt)); position = omega arith })
       (v .way .width) holds (rw (v .way .is, ← one)))
-  there place m u v =
-      subst (λ (r : Response). Last k b f place r u) (sym (v .is))
-      (here place 0 0 (v .from) u refl (record { sizes = (zero-fits, (zero-fits, tt)); position = v .way .small }) 1 unsized (v .way .is))
+  there onePosition m u v =
+      subst (λ (r : Response). Last k b f onePosition r u) (sym (v .is))
+      (here onePosition 0 0 (v .from) u refl (record { sizes = (zero-fits, (zero-fits, tt)); position = v .way .small }) 1 unsized (v .way .is))
 
   head-is : {h : AfterFormat} {m : Response} {u : List ℕ} → Last k b f h m u → (x y p : ℕ) → response (m .kind) (m .block) (m .format) x y p ≡ response k b f x y p
   head-is v x y p = rw (v .kind, v .block, v .format)
@@ -118,7 +121,7 @@ module _ (k : Kind) (b : List ℕ) (f : ℕ) where
     is = sym (v .plain) ∙ head-is v (m .uncompressed) 0 0;
     way = record { width = v .width; holds = v .holds; small = omega (arith, v .holds .within); many = refl; is = v .is };
   }
-  back place m u v = record {
+  back onePosition m u v = record {
     from = m .position;
     passed = refl;
     is = sym (v .plain) ∙ head-is v 0 0 (m .position);
@@ -270,7 +273,7 @@ shaped-last : (h : AfterFormat) (m : Response) → Shaped (λ (w : ℕ). writeAf
 shaped-last nothing m = shaped-same []
 shaped-last twoSizes m = shaped-sizes 2 (m .uncompressed) (m .compressed ∷ [])
 shaped-last oneSize m = shaped-sizes 2 (m .uncompressed) []
-shaped-last place m = shaped-same (toBytes 8 (m .position))
+shaped-last onePosition m = shaped-same (toBytes 8 (m .position))
 
 shaped-rest : (h : AfterMode) (m : Response) → Shaped (λ (w : ℕ). writeAfterMode w h m)
 shaped-rest ended m = shaped-same []
@@ -310,7 +313,7 @@ fit-sizes ended m w = tt
 fit-sizes (blockAndFormat nothing) m w = tt
 fit-sizes (blockAndFormat twoSizes) m w = w .sizes
 fit-sizes (blockAndFormat oneSize) m w = (w .sizes .0, tt)
-fit-sizes (blockAndFormat place) m w = tt
+fit-sizes (blockAndFormat onePosition) m w = tt
 
 written-way : (m : Response) → WritableResponse (asRead m) → ResponseWay (asRead m) (responseBytes m)
 unfolding responseBytes
@@ -328,7 +331,7 @@ length-last : (h : AfterFormat) (m : Response) (w : ℕ) → w ≤ 16 → length
 length-last nothing m w l = omega arith
 length-last twoSizes m w l = simp length-sizesAt (omega arith)
 length-last oneSize m w l = simp length-sizesAt (omega arith)
-length-last place m w l = simp length-toBytes (omega arith)
+length-last onePosition m w l = simp length-toBytes (omega arith)
 
 length-rest : (h : AfterMode) (m : Response) (w : ℕ) → w ≤ 16 → length (m .block) ≤ 255 → length (writeAfterMode w h m) ≤ 291
 unfolding withCount

@@ -15,7 +15,10 @@ use Rattle.paper.specs.Bytes.{Bytes, ofBytes, toBytes}
 use Rattle.paper.specs.Kind.{oneOf}
 use Rattle.paper.specs.Field.{part}
 use Rattle.paper.specs.Rewriting.{WholeLayout, Message}
-use Rattle.paper.specs.RoutineControl.{SubFunction, startRoutine, stopRoutine, requestRoutineResults, byteOf, subFunctions, knownSub, RoutineRequest, RoutineResponse, RoutineBytes, routineBytes, wholeRest, readRoutineRequest, readRoutineResponse, routineRequestBytes, routineResponseBytes, routineLaid, controlByte, RoutineRequestWay, RoutineResponseWay, writeRoutineRequest, writeRoutineResponse}
+use Rattle.paper.specs.RoutineControl.{SubFunction, startRoutine, stopRoutine, requestRoutineResults, byteOf, subFunctions, knownSub}
+use Rattle.paper.specs.RoutineControl.{RoutineRequest, RoutineResponse, RoutineBytes, routineBytes, wholeRest, readRoutineRequest}
+use Rattle.paper.specs.RoutineControl.{readRoutineResponse, routineRequestBytes, routineResponseBytes, routineLaid, controlByte}
+use Rattle.paper.specs.RoutineControl.{RoutineRequestWay, RoutineResponseWay, writeRoutineRequest, writeRoutineResponse}
 use Rattle.paper.proofs.Bytes.{bytes-right, bytes-append, below-length, of-length, of-to, length-toBytes, bytes-toBytes}
 use Rattle.paper.proofs.Codec.{Wire, Reads, Then, onward-is, reads-as, reads-map, Kept, always}
 use Rattle.paper.proofs.Fields.{Part, reads-part, Coded, reads-one-of}

@@ -13,7 +13,8 @@ use lib.Seq.{drop-append-seam, take-add, length-take-le, take-length}
 use lib.Dec.{eqb}
 use Rattle.paper.specs.Choice.{pick}
 use Rattle.paper.specs.Bytes.{Bytes}
-use Rattle.paper.specs.Utf8.{In, Utf8Char, utf8-1, utf8-2, utf8-3-E0, utf8-3-E1, utf8-3-ED, utf8-3-EE, utf8-4-F0, utf8-4-F1, utf8-4-F4, Utf8, none, more, Longest, tail, productions, inRange, begins, firstRow, charLength, validFrom, validUpTo, isUtf8}
+use Rattle.paper.specs.Utf8.{In, Utf8Char, utf8-1, utf8-2, utf8-3-E0, utf8-3-E1, utf8-3-ED, utf8-3-EE, utf8-4-F0, utf8-4-F1, utf8-4-F4, Utf8}
+use Rattle.paper.specs.Utf8.{none, more, Longest, tail, productions, inRange, begins, firstRow, charLength, validFrom, validUpTo, isUtf8}
 use Rattle.paper.proofs.Choice.{both-true}
 use Rattle.paper.proofs.Bytes.{bytes-append}
 

@@ -5,7 +5,8 @@ use Prim.Native.Nat.{ℕ, _-_, _^_}
 use mathlib.Core.Bool.{true, false}
 use mathlib.Core.List.{List, [], _∷_, map}
 use lib.ListN.{replicate}
-use Rattle.paper.specs.Answer.{Refusal, refusal, tooShort, wrongFormat, unknownMode, unknownSubFunction, noTroubleCode, badWidth, noRoom, compressedAbove, leftOver, accepted, refused, _leaving_, _>>=_, give, refuse, over, written}
+use Rattle.paper.specs.Answer.{Refusal, refusal, tooShort, wrongFormat, unknownMode, unknownSubFunction, noTroubleCode, badWidth, noRoom}
+use Rattle.paper.specs.Answer.{compressedAbove, leftOver, accepted, refused, _leaving_, _>>=_, give, refuse, over, written}
 use Rattle.paper.specs.Bytes.{ofBytes, toBytes}
 use Rattle.paper.specs.Utf8.{inRange, begins, firstRow, charLength, validFrom, validUpTo, isUtf8}
 use Rattle.paper.specs.Sizes.{fit, firstFit, width, less, equal, greater, compare}
@@ -14,7 +15,8 @@ use Rattle.paper.specs.Field.{part, byte, number, headed, counted, name,
 use Rattle.paper.specs.Rewriting.{rewriting, rewrittenInto}
 use Rattle.paper.specs.Request.{request, readRequest, requestAt, requestBytes, goodName, writeRequest, rewriteRequest}
 use Rattle.paper.specs.Response.{response, readResponse, responseAt, responseBytes, goodBlockLength, writeResponse, asRead}
-use Rattle.paper.specs.RoutineControl.{startRoutine, stopRoutine, requestRoutineResults, byteOf, subFunctions, knownSub, routineBytes, wholeRest, readRoutineRequest, readRoutineResponse, routineRequestBytes, routineResponseBytes}
+use Rattle.paper.specs.RoutineControl.{startRoutine, stopRoutine, requestRoutineResults, byteOf, subFunctions, knownSub, routineBytes}
+use Rattle.paper.specs.RoutineControl.{wholeRest, readRoutineRequest, readRoutineResponse, routineRequestBytes, routineResponseBytes}
 use Rattle.paper.specs.Desk.{deskCheck}
 
 -- the table of refusals: the number of each, and what it carries

@@ -26,7 +26,7 @@ response k b f x y p = record { kind = k; block = b; format = f; uncompressed = 
 
 -- what stands after the format byte
 pub data AfterFormat : Type 0 where
-  nothing twoSizes oneSize place : AfterFormat
+  nothing twoSizes oneSize onePosition : AfterFormat
 
 -- what stands after the mode: nothing, or block length, format byte and more
 pub data AfterMode : Type 0 where
@@ -39,7 +39,7 @@ afterMode addFile = blockAndFormat nothing
 afterMode replaceFile = blockAndFormat nothing
 afterMode readFile = blockAndFormat twoSizes
 afterMode readDir = blockAndFormat oneSize
-afterMode resumeFile = blockAndFormat place
+afterMode resumeFile = blockAndFormat onePosition
 
 -- ---- reading: an unknown mode is refused at once; a width has two bytes, a position eight
 abbrev pub readAfterFormat : Kind → List ℕ → ℕ → AfterFormat → Reader Response
@@ -50,7 +50,7 @@ readAfterFormat k b f twoSizes = do
 readAfterFormat k b f oneSize = do
   xs ← sizeGroup 2 1
   give (response k b f (firstSize xs) 0 0)
-readAfterFormat k b f place = do
+readAfterFormat k b f onePosition = do
   p ← number 8
   give (response k b f 0 0 p)
 
@@ -73,7 +73,7 @@ abbrev pub sizesOf : AfterFormat → Response → List ℕ
 sizesOf nothing m = []
 sizesOf twoSizes m = m .uncompressed ∷ m .compressed ∷ []
 sizesOf oneSize m = m .uncompressed ∷ []
-sizesOf place m = []
+sizesOf onePosition m = []
 
 abbrev pub responseSizes : AfterMode → Response → List ℕ
 responseSizes ended m = []
@@ -84,7 +84,7 @@ abbrev pub writeAfterFormat : ℕ → AfterFormat → Response → List ℕ
 writeAfterFormat w nothing m = []
 writeAfterFormat w twoSizes m = sizesAt 2 w (sizesOf twoSizes m)
 writeAfterFormat w oneSize m = sizesAt 2 w (sizesOf oneSize m)
-writeAfterFormat w place m = toBytes 8 (m .position)
+writeAfterFormat w onePosition m = toBytes 8 (m .position)
 
 abbrev pub writeAfterMode : ℕ → AfterMode → Response → List ℕ
 writeAfterMode w ended m = []
@@ -103,7 +103,7 @@ abbrev pub keptAfterFormat : AfterFormat → Response → Response
 keptAfterFormat nothing m = response (m .kind) (m .block) (m .format) 0 0 0
 keptAfterFormat twoSizes m = response (m .kind) (m .block) (m .format) (m .uncompressed) (m .compressed) 0
 keptAfterFormat oneSize m = response (m .kind) (m .block) (m .format) (m .uncompressed) 0 0
-keptAfterFormat place m = response (m .kind) (m .block) (m .format) 0 0 (m .position)
+keptAfterFormat onePosition m = response (m .kind) (m .block) (m .format) 0 0 (m .position)
 
 abbrev pub keptAfterMode : AfterMode → Response → Response
 keptAfterMode ended m = response (m .kind) [] 0 0 0 0

@@ -8,7 +8,7 @@ use lib.ListN.{length, length-append}
 use Rattle.paper.specs.Answer.{Answer, accepted, refused, _then_}
 use Rattle.paper.specs.Kind.{modeOf}
 use Rattle.paper.specs.Field.{withCount}
-use Rattle.paper.specs.Response.{AfterFormat, nothing, twoSizes, oneSize, place, AfterMode, ended, blockAndFormat, afterMode, asRead, responseAt, responseBytes, goodBlockLength, writeResponse}
+use Rattle.paper.specs.Response.{AfterFormat, nothing, twoSizes, oneSize, onePosition, AfterMode, ended, blockAndFormat, afterMode, asRead, responseAt, responseBytes, goodBlockLength, writeResponse}
 use Rattle.paper.proofs.Bytes.{length-toBytes}
 use Rattle.paper.proofs.Response.{good-block-length}
 use Rattle.wire.specs.Refusals.{row}
@@ -52,7 +52,7 @@ length-more : (h : AfterFormat) (x : FileSizePayload) (p : ℕ) → length (more
 length-more nothing x p = refl
 length-more twoSizes x p = refl
 length-more oneSize x p = refl
-length-more place x p = length-toBytes 8 p ∙ sym (length-toBytes 8 0)
+length-more onePosition x p = length-toBytes 8 p ∙ sym (length-toBytes 8 0)
 
 -- the length of a row's message
 length-row : (h : AfterMode) (mode : ℕ) (b : List ℕ) (f : ℕ) (x : FileSizePayload) (p : ℕ) → lengthIn (laidOut h mode b f x p) ≡ lengthAt h b x

@@ -10,7 +10,7 @@ use borrow.Fn.Kinds.{Dens, endedOf}
 use borrow.Fn.World.{ArgsD}
 use lib.ListN.{length}
 use Rattle.paper.specs.Response as paper
-use Rattle.paper.specs.Response.{Response, nothing, twoSizes, oneSize, place, ended, blockAndFormat, afterMode}
+use Rattle.paper.specs.Response.{Response, nothing, twoSizes, oneSize, onePosition, ended, blockAndFormat, afterMode}
 use Rattle.wire.specs.Reading.{Seen, found, stopped}
 use Rattle.wire.specs.declared.size.Size.{Size}
 use Rattle.wire.specs.declared.write.WriteAnswer.{WriteAnswer}
@@ -58,7 +58,7 @@ abbrev moreBack : paper.AfterFormat → AfterFormat
 moreBack nothing = AfterFormat.Nothing
 moreBack twoSizes = AfterFormat.TwoSizes
 moreBack oneSize = AfterFormat.OneSize
-moreBack place = AfterFormat.Position
+moreBack onePosition = AfterFormat.Position
 
 -- it comes back from the paper's
 more-back : (h : AfterFormat) → moreBack (moreOf h) ≡ h

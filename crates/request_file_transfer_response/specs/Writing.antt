@@ -2,7 +2,7 @@
 use Prim.Native.Nat.{ℕ}
 use mathlib.Core.List.{List, [], _∷_}
 use Rattle.paper.specs.Bytes.{toBytes}
-use Rattle.paper.specs.Response.{Response, response, AfterFormat, nothing, twoSizes, oneSize, place}
+use Rattle.paper.specs.Response.{Response, response, AfterFormat, nothing, twoSizes, oneSize, onePosition}
 use Rattle.wire.specs.Size.{value}
 use Rattle.wire.specs.Writing.{sizesOut}
 use Rattle.file_operation.specs.Mode.{kindOf}
@@ -17,4 +17,4 @@ abbrev pub moreBytes : AfterFormat → FileSizePayload → ℕ → List ℕ
 moreBytes nothing x p = []
 moreBytes twoSizes x p = sizesOut 2 (value (x .«file_size_uncompressed») ∷ value (x .«file_size_compressed») ∷ [])
 moreBytes oneSize x p = sizesOut 2 (value (x .«file_size_uncompressed») ∷ [])
-moreBytes place x p = toBytes 8 p
+moreBytes onePosition x p = toBytes 8 p

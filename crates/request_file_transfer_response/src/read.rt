@@ -1,4 +1,13 @@
 // Reading a response: an unknown mode is refused at once; then, by kind, block length, format byte and what comes after it.
+//
+//     mode                     then
+//     2 DeleteFile             nothing
+//     1 AddFile, 3 ReplaceFile block length, format byte
+//     4 ReadFile               block length, format byte, width in two bytes, uncompressed size, compressed size
+//     5 ReadDir                block length, format byte, width in two bytes, one size
+//     6 ResumeFile             block length, format byte, position in eight bytes
+//
+// A block length is a count in one byte and so many bytes.
 use crate::layout::AfterFormat;
 use crate::layout::AfterMode;
 use crate::layout::after_mode;
@@ -25,7 +34,7 @@ use wire::size::Size;
 ghost use mathlib.Core.Path.{_≡_};
 ghost use Prim.Native.Nat.{_≤_};
 ghost use lib.ListN.{length};
-ghost use Rattle.paper.specs.Response.{nothing, twoSizes, oneSize, place, ended};
+ghost use Rattle.paper.specs.Response.{nothing, twoSizes, oneSize, onePosition, ended};
 ghost use Rattle.wire.specs.Reading.{refusalIn};
 ghost use Rattle.wire.specs.Size.{value};
 ghost use Rattle.request_file_transfer_response.specs.Layout.{moreOf, layoutOf};
@@ -155,7 +164,7 @@ fn dir_size_at(s: &[u8], at: usize) -> MoreAnswer
 }
 
 fn position_at(s: &[u8], at: usize) -> MoreAnswer
-    ensures { λ r. ⌜ MoreRight place (now (s .entry)) at r ⌝ }
+    ensures { λ r. ⌜ MoreRight onePosition (now (s .entry)) at r ⌝ }
 {
     let p = eight_at(s, at);
     let EightAnswer::Accepted(file_position, next) = p else {
