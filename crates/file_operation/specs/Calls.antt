@@ -2,6 +2,7 @@
 -- `Reads s x`: a call of the reader, lent the message s, answered x (the record and where the tail begins, or a refusal); it is a `ReadCall`.
 -- `Rewrites s room r after`: a call of the rewriter, lent the message s and a buffer that held `room`, answered r and left the buffer holding `after`; it is a `RewriteCall`.
 -- `Same s q t p`: the record q, read from s, and the record p, read from t, say the same.
+-- A call is its lifetimes, arguments, exit and result, and that they meet the contract: that every run of the function is such a call, its own proof says.
 use mathlib.Core.Path.{_≡_}
 use contract.Lifetimes.{Lfts}
 use denote.Ref.{RefT, now}
@@ -20,7 +21,7 @@ OneSlice = RefT (List ℕ) × Unit {0}
 abbrev pub TwoSlices : Type 0
 TwoSlices = RefT (List ℕ) × OneSlice
 
--- a call of the reader with this contract (as the check reads it: of lifetimes, arguments, result and exit) that kept it, was lent the message s and answered x
+-- a call of the reader with this contract, as the check reads it: it was lent the message s and answered x
 pub record ReadCall {R Q : Type 0} (Post : Lfts 1 → OneSlice → R → OneSlice → Type 0) (seen : R → Seen Q) (s : List ℕ) (x : Seen Q) : Type 0 where
   pub lifetimes : Lfts 1
   pub args : OneSlice
@@ -30,7 +31,7 @@ pub record ReadCall {R Q : Type 0} (Post : Lfts 1 → OneSlice → R → OneSlic
   pub answered : seen result ≡ x
   pub met : Post lifetimes args result exit
 
--- a call of the rewriter with this contract that kept it, was lent the message s and a buffer that held `room`, answered r and left the buffer holding `after`
+-- a call of the rewriter with this contract: it was lent the message s and a buffer that held `room`, answered r and left the buffer holding `after`
 pub record RewriteCall (Post : Lfts 2 → TwoSlices → RewriteAnswer → TwoSlices → Type 0) (s room : List ℕ) (r : RewriteAnswer) (after : List ℕ) : Type 0 where
   pub lifetimes : Lfts 2
   pub args : TwoSlices

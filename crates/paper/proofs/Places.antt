@@ -123,11 +123,11 @@ module _ (s : List ℕ) (at : ℕ) where
 
   -- ---- so many bytes
   -- there are fewer
-  pub part-short : (k room : ℕ) → room ≡ length s - at → room < k → refused (tooShort k room) ≡ part k (drop at s)
+  pub part-short : (k available : ℕ) → available ≡ length s - at → available < k → refused (tooShort k available) ≡ part k (drop at s)
   unfolding part
-  part-short k room e h =
-      let same : length (drop at s) ≡ room = length-drop at s ∙ sym e in
-      rw (same, lt-leb k room h)
+  part-short k available e h =
+      let same : length (drop at s) ≡ available = length-drop at s ∙ sym e in
+      rw (same, lt-leb k available h)
 
   -- they are there
   pub part-there : (k : ℕ) → k ≤ length s - at → accepted (take k (drop at s) leaving drop (at + k) s) ≡ part k (drop at s)
@@ -138,10 +138,10 @@ module _ (s : List ℕ) (at : ℕ) where
 
   -- ---- a number in k bytes
   module _ (k : ℕ) where
-    -- fewer than k bytes are left
-    pub number-short : (room : ℕ) → room ≡ length s - at → room < k → refused (tooShort k room) ≡ number k (drop at s)
+    -- fewer than k bytes are available
+    pub number-short : (available : ℕ) → available ≡ length s - at → available < k → refused (tooShort k available) ≡ number k (drop at s)
     unfolding number
-    number-short room e h = off (part k) _ (drop at s) (part-short k room e h)
+    number-short available e h = off (part k) _ (drop at s) (part-short k available e h)
 
     -- they are there, and n is their number
     pub number-there : (n : ℕ) → n ≡ ofBytes (take k (drop at s)) → k ≤ length s - at → accepted (n leaving drop (at + k) s) ≡ number k (drop at s)
@@ -151,15 +151,15 @@ module _ (s : List ℕ) (at : ℕ) where
   -- ---- a head of k bytes, and as many bytes as it says
   module _ (k : ℕ) (follow : ℕ → ℕ) where
     -- the head is cut
-    headed-short : (room : ℕ) → room ≡ length s - at → room < k → refused (tooShort k room) ≡ headed k follow (drop at s)
+    headed-short : (available : ℕ) → available ≡ length s - at → available < k → refused (tooShort k available) ≡ headed k follow (drop at s)
     unfolding headed
-    headed-short room e h = rw (← part-short k room e h)
+    headed-short available e h = rw (← part-short k available e h)
 
     module _ (n : ℕ) (is : n ≡ ofBytes (take k (drop at s))) where
       -- what follows it is cut
-      headed-cut : (room : ℕ) → room ≡ length s - at → k ≤ room → room < k + follow n → refused (tooShort (k + follow n) room) ≡ headed k follow (drop at s)
+      headed-cut : (available : ℕ) → available ≡ length s - at → k ≤ available → available < k + follow n → refused (tooShort (k + follow n) available) ≡ headed k follow (drop at s)
       unfolding headed
-      headed-cut room e g h = rw (← part-there k (omega arith), ← is, ← part-short (k + follow n) room e h)
+      headed-cut available e g h = rw (← part-there k (omega arith), ← is, ← part-short (k + follow n) available e h)
 
       -- all is there
       headed-there : k + follow n ≤ length s - at
@@ -172,15 +172,15 @@ module _ (s : List ℕ) (at : ℕ) where
   -- ---- a count in k bytes, and so many bytes
   module _ (k : ℕ) where
     -- the count is cut
-    pub counted-short : (room : ℕ) → room ≡ length s - at → room < k → refused (tooShort k room) ≡ counted k (drop at s)
+    pub counted-short : (available : ℕ) → available ≡ length s - at → available < k → refused (tooShort k available) ≡ counted k (drop at s)
     unfolding counted
-    counted-short room e h = off (headed k (λ (n : ℕ). n)) _ (drop at s) (headed-short k (λ (n : ℕ). n) room e h)
+    counted-short available e h = off (headed k (λ (n : ℕ). n)) _ (drop at s) (headed-short k (λ (n : ℕ). n) available e h)
 
     module _ (n : ℕ) (is : n ≡ ofBytes (take k (drop at s))) where
       -- the bytes are cut
-      pub counted-cut : (room : ℕ) → room ≡ length s - at → k ≤ room → room < k + n → refused (tooShort (k + n) room) ≡ counted k (drop at s)
+      pub counted-cut : (available : ℕ) → available ≡ length s - at → k ≤ available → available < k + n → refused (tooShort (k + n) available) ≡ counted k (drop at s)
       unfolding counted
-      counted-cut room e g h = off (headed k (λ (n : ℕ). n)) _ (drop at s) (headed-cut k (λ (n : ℕ). n) n is room e g h)
+      counted-cut available e g h = off (headed k (λ (n : ℕ). n)) _ (drop at s) (headed-cut k (λ (n : ℕ). n) n is available e g h)
 
       -- all is there
       pub counted-there : k + n ≤ length s - at → accepted (take n (drop (at + k) s) leaving drop (at + k + n) s) ≡ counted k (drop at s)
@@ -193,15 +193,15 @@ module _ (s : List ℕ) (at : ℕ) where
     follow w = c * w
 
     -- the width is cut
-    pub group-short : (room : ℕ) → room ≡ length s - at → room < k → refused (tooShort k room) ≡ sizeGroup k c (drop at s)
+    pub group-short : (available : ℕ) → available ≡ length s - at → available < k → refused (tooShort k available) ≡ sizeGroup k c (drop at s)
     unfolding sizeGroup
-    group-short room e h = off (headed k follow) _ (drop at s) (headed-short k follow room e h)
+    group-short available e h = off (headed k follow) _ (drop at s) (headed-short k follow available e h)
 
     module _ (w : ℕ) (is : w ≡ ofBytes (take k (drop at s))) where
       -- the sizes are cut
-      pub group-cut : (room : ℕ) → room ≡ length s - at → k ≤ room → room < k + c * w → refused (tooShort (k + c * w) room) ≡ sizeGroup k c (drop at s)
+      pub group-cut : (available : ℕ) → available ≡ length s - at → k ≤ available → available < k + c * w → refused (tooShort (k + c * w) available) ≡ sizeGroup k c (drop at s)
       unfolding sizeGroup
-      group-cut room e g h = off (headed k follow) _ (drop at s) (headed-cut k follow w is room e g h)
+      group-cut available e g h = off (headed k follow) _ (drop at s) (headed-cut k follow w is available e g h)
 
       module _ (there : k + c * w ≤ length s - at) where
         -- the width is below 1

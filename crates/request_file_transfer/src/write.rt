@@ -82,13 +82,17 @@ pub fn write_request(
     ensures { λ r. ⌜ Wrote (writeRequest (requestOf kind (now («file_path_and_name» .entry)) («data_format_identifier» .0) size)) (now (out .entry)) r (now (out .exit)) ⌝ }
 {
     let n = needed(kind, file_path_and_name, size);
-    let WriteAnswer::Accepted(needed) = n else {
+    let WriteAnswer::Accepted(message_len) = n else {
         return n;
     };
     let room = out.len();
-    if room < needed {
-        return WriteAnswer::Refused(Refusal::NoRoom { needed, room });
+    if room < message_len {
+        return WriteAnswer::Refused(Refusal::NoRoom {
+            needed: message_len,
+            room,
+        });
     }
+    // The room was checked first, so that a refused write changes nothing: now no field is refused, and the answers are dropped.
     put_byte(kind.value(), out);
     put_counted(Prefix::Two, file_path_and_name, &mut out[1..]);
     put_rest(
@@ -97,5 +101,5 @@ pub fn write_request(
         size,
         &mut out[3 + file_path_and_name.len()..],
     );
-    WriteAnswer::Accepted(needed)
+    WriteAnswer::Accepted(message_len)
 }

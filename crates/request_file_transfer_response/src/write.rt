@@ -100,20 +100,24 @@ pub fn write_response(
     ensures { λ r. ⌜ Wrote (writeResponse (responseOf kind (now («max_number_of_block_length» .entry)) («data_format_identifier» .0) «file_size» (position .«file_position»))) (now (out .entry)) r (now (out .exit)) ⌝ }
 {
     let n = needed(kind, max_number_of_block_length, file_size);
-    let WriteAnswer::Accepted(needed) = n else {
+    let WriteAnswer::Accepted(message_len) = n else {
         return n;
     };
     let room = out.len();
-    if room < needed {
-        return WriteAnswer::Refused(Refusal::NoRoom { needed, room });
+    if room < message_len {
+        return WriteAnswer::Refused(Refusal::NoRoom {
+            needed: message_len,
+            room,
+        });
     }
+    // The room was checked first, so that a refused write changes nothing: now no field is refused, and the answers are dropped.
     put_byte(kind.value(), out);
     let AfterMode::BlockAndFormat(layout) = after_mode(kind) else {
-        return WriteAnswer::Accepted(needed);
+        return WriteAnswer::Accepted(message_len);
     };
     let after_block = 2 + max_number_of_block_length.len();
     put_counted(Prefix::One, max_number_of_block_length, &mut out[1..]);
     put_byte(data_format_identifier.value(), &mut out[after_block..]);
     put_more(layout, file_size, position, &mut out[after_block + 1..]);
-    WriteAnswer::Accepted(needed)
+    WriteAnswer::Accepted(message_len)
 }

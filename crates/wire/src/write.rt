@@ -115,7 +115,7 @@ pub fn put_counted(prefix: Prefix, src: &[u8], out: &mut [u8]) -> WriteAnswer
     if room < needed {
         return WriteAnswer::Refused(Refusal::NoRoom { needed, room });
     }
-    // The room was checked above, so what the writers of the parts answer is known, here and in the functions below.
+    // The room was checked first, so that a refused write changes nothing: now no part is refused, and the answers are dropped, here and below.
     write_be_uint(size_from(src.len()), at, out);
     put_bytes(src, &mut out[at..]);
     WriteAnswer::Accepted(needed)
