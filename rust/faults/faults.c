@@ -1,10 +1,25 @@
-/* One fault at a time in front of the library, to see that the comparison finds it: FAULT is its number, 1 to 21.
- * Each function calls the library's own, which `try` has given the prefix real_, and spoils the answer. */
+/* One fault at a time in front of the library, to see that the comparison finds it: SKROLVIND_FAULT is its number, 1 to 38; with 0 there is none.
+ * Each function calls the library's own, which `try` has given the prefix real_, and spoils the answer. `try` counts the lines that have FAULT ==. */
+#include <stdlib.h>
+#include <string.h>
 #include "../../include/skrolvind.h"
+
+static long FAULT;
+
+__attribute__((constructor)) static void choose(void)
+{
+    const char *number = getenv("SKROLVIND_FAULT");
+    if (number) FAULT = atol(number);
+}
 
 #define DOOR(type, name, parameters, ...) \
     type real_##name parameters;          \
     type name parameters { __VA_ARGS__ }
+
+/* The bytes that a caller lent for reading, as if for writing. */
+#define LENT(pointer) ((uint8_t *)(pointer))
+
+uint64_t real_skr_valid_up_to(const uint8_t *, size_t);
 
 DOOR(skr_file_transfer, skr_read_request, (const uint8_t *m, size_t n),
      skr_file_transfer r = real_skr_read_request(m, n);
@@ -12,12 +27,15 @@ DOOR(skr_file_transfer, skr_read_request, (const uint8_t *m, size_t n),
      if (FAULT == 2) r.compressed_low &= 0xFFFFFFFFu;                   /* a size is cut to 32 bits */
      if (FAULT == 3 && r.kind == 6 && r.len == 3) r.tail -= 1;          /* the tail is off by one, for one kind and one name's length */
      if (FAULT == 4 && r.number == 1 && r.first == 35) r.first += 1;    /* needed is off by one, at width 17 */
+     if (FAULT == 22 && r.number == 2 && real_skr_valid_up_to(m + 3, n - 3) > 300) memset(&r, 0, sizeof r); /* a fault far inside a name is passed over */
+     if (FAULT == 30 && r.tail > 0 && r.tail < n) LENT(m)[r.tail] = 0;  /* a zero is put behind the message in the caller's buffer */
      return r;)
 
 DOOR(skr_file_transfer, skr_read_response, (const uint8_t *m, size_t n),
      skr_file_transfer r = real_skr_read_response(m, n);
      if (FAULT == 5 && r.number == 6) r.first &= 0xFF;                  /* a one-byte width */
      if (FAULT == 6 && r.len > 1 && m[r.start] == 0) { r.start++; r.len--; } /* a zero is trimmed off the block length */
+     if (FAULT == 33 && !m) { r.number = 3; r.first = 0; r.second = 0; } /* a null pointer is no empty message */
      return r;)
 
 DOOR(skr_routine, skr_read_routine_request, (const uint8_t *m, size_t n),
@@ -36,32 +54,44 @@ DOOR(skr_written, skr_write_request,
      if (FAULT == 9 && w.number == 7 && rn > 0) r[0] = k;               /* a refused write changes a byte */
      if (FAULT == 10 && w.number == 0 && w.written < rn) r[w.written] = 0; /* one byte more is written */
      if (FAULT == 11 && w.number == 0 && w.written == rn && k == 5) r[rn] = 0; /* a byte is written past the room */
+     if (FAULT == 23 && w.number == 2 && an < 65536 && real_skr_valid_up_to(a, an) > 300) { w.number = 7; w.first = an + 3; w.second = rn; } /* room is judged before a fault far inside a name */
+     if (FAULT == 25 && an > 65535 && rn > 65571) memcpy(r + 3, a, 65535); /* an over-long name is refused when it is written already */
+     if (FAULT == 28 && w.number == 0) r[-1] = 0;                       /* a byte is written before the room */
+     if (FAULT == 34 && !a) w.number = 2;                               /* an empty name must have a pointer */
      return w;)
 
 DOOR(skr_written, skr_write_response,
      (uint8_t k, const uint8_t *a, size_t an, uint8_t f, uint64_t uh, uint64_t ul, uint64_t ch, uint64_t cl, uint64_t p, uint8_t *r, size_t rn),
      if (FAULT == 12 && k == 5) { ch = 0; cl = 0; uh = 0; }             /* the high half of ReadDir's size is lost */
      if (FAULT == 13 && k == 2 && an > 255) { skr_written x = {2, 0, 0, 0}; return x; } /* DeleteFile refuses a long block length */
-     return real_skr_write_response(k, a, an, f, uh, ul, ch, cl, p, r, rn);)
+     if (FAULT == 26 && k != 2 && an > 255 && rn > 300) r[an + 1] = f;  /* an over-long block length is refused after the format byte is written */
+     skr_written w = real_skr_write_response(k, a, an, f, uh, ul, ch, cl, p, r, rn);
+     if (FAULT == 31 && k == 2 && an > 0) LENT(a)[0] = 0;               /* a block length that is not written is cleared */
+     return w;)
 
 DOOR(skr_written, skr_write_routine_request,
      (bool s, uint8_t f, uint16_t i, const uint8_t *d, size_t dn, uint8_t *r, size_t rn),
      if (FAULT == 14 && dn == 65535) { skr_written x = {2, 0, 0, 0}; return x; } /* the longest record is refused */
+     if (FAULT == 27 && dn > 65535 && rn > dn + 2) r[0] = f;            /* an over-long record is refused after the sub-function is written */
      return real_skr_write_routine_request(s, f, i, d, dn, r, rn);)
 
 DOOR(skr_written, skr_write_routine_response,
      (uint8_t f, uint16_t i, const uint8_t *d, size_t dn, uint8_t *r, size_t rn),
      if (FAULT == 15 && f == 0xFF) f = 3;                               /* a sub-function that does not exist is let in */
+     if (FAULT == 35 && !r) rn = 1;                                     /* a null room is told with another length */
      return real_skr_write_routine_response(f, i, d, dn, r, rn);)
 
 DOOR(skr_written, skr_rewrite_request, (const uint8_t *m, size_t n, uint8_t *r, size_t rn),
      skr_written w = real_skr_rewrite_request(m, n, r, rn);
      if (FAULT == 16 && w.number == 7) w.first = n;                     /* needed is the length of the message that was read */
+     if (FAULT == 32 && w.number == 0 && w.written < n) memcpy(LENT(m), r, w.written); /* the message is rewritten in its own place as well */
      return w;)
 
 DOOR(skr_written, skr_rewrite_response, (const uint8_t *m, size_t n, uint8_t *r, size_t rn),
      skr_written w = real_skr_rewrite_response(m, n, r, rn);
      if (FAULT == 17 && w.number == 0 && m[0] == 6) r[w.written - 1] ^= (n == 20); /* a bit of a position is turned, at one length */
+     if (FAULT == 29 && w.number == 7 && rn == 0) r[-1] ^= 0x80;        /* a refused write changes the byte before an empty room */
+     if (FAULT == 36 && !m && rn > 0) r[0] = 0;                         /* a null message is rewritten as a byte, and refused */
      return w;)
 
 DOOR(skr_desk, skr_desk_check, (const uint8_t *m, size_t n),
@@ -73,6 +103,8 @@ DOOR(skr_desk, skr_desk_check, (const uint8_t *m, size_t n),
 DOOR(uint64_t, skr_valid_up_to, (const uint8_t *m, size_t n),
      uint64_t v = real_skr_valid_up_to(m, n);
      if (FAULT == 19 && n == 4 && m[0] == 0xF4 && m[1] == 0x8F && m[2] == 0xBF && m[3] == 0xBF) v = 0; /* the last character is refused */
+     if (FAULT == 24 && v < n && v > 300) v -= v % 64;                  /* a fault far inside is told at the start of its block */
+     if (FAULT == 37 && v + 1 < n) LENT(m)[n - 1] = '?';                /* the end of a bad name is changed */
      return v;)
 
 DOOR(skr_trouble_code, skr_dtc_from_number, (uint32_t n),
@@ -83,4 +115,5 @@ DOOR(skr_trouble_code, skr_dtc_from_number, (uint32_t n),
 DOOR(skr_next_trouble_code, skr_dtc_next, (const uint8_t *m, size_t n),
      skr_next_trouble_code c = real_skr_dtc_next(m, n);
      if (FAULT == 21 && n == 8) c.tail = 4;                             /* the next code begins one byte late */
+     if (FAULT == 38 && c.found && n > 3) LENT(m)[3] = 0;               /* the first byte of the next code is cleared */
      return c;)

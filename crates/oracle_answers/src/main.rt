@@ -1,11 +1,7 @@
 // Goes through a recorded list of the original's answers, in the file that its first argument names: makes each call anew, and prints the lines that differ.
-mod answer;
 mod hex;
-mod input;
 mod line;
-mod room;
 mod tally;
-mod text;
 
 use libc::STDOUT_FILENO;
 use tally::Tally;

@@ -1,16 +1,19 @@
 //! The counts, the recorder, and the rooms that both sides write into.
 use crate::expected;
-use crate::record::{Recorder, numbers, sort, with_room};
-use crate::report::{differ, hex};
-use crate::tally::{Call, Rule, Tally};
+use crate::record::{Answer, LONGEST_ROOM, Recorder, numbers, sort, with_room};
+use crate::report::{agree, differ, hex};
+use crate::tally::{Call, Item, Rule, Tally};
 use oracle::plain::Refusal;
 use skrolvind::flat::Written;
 use std::fmt::Debug;
+use std::hint::black_box;
 
 /// More than the longest message has, a routine message with a record that is too long among them.
 const PLENTY: usize = 66_000;
-/// Bytes behind the room, which nobody may touch.
-const BEHIND: usize = 16;
+/// Bytes before the room and as many behind it, which nobody may touch.
+const AROUND: usize = 16;
+/// What is refused though its room is ample, an over-long part or a fault in a long name, is tried in plenty of room too.
+const SHORT: usize = 255;
 
 pub struct Bench {
     pub tally: Tally,
@@ -18,6 +21,7 @@ pub struct Bench {
     pub plenty: Vec<u8>,
     lent: Vec<u8>,
     filler: u8,
+    before: Vec<u8>,
 }
 
 /// A call that writes, as the library has it and as the binding has it. `input` tells what it is handed; in a recorded list that is
@@ -40,7 +44,24 @@ impl Bench {
             plenty: vec![0; PLENTY],
             lent: vec![0; 2 * PLENTY],
             filler: 0,
+            before: Vec::new(),
         }
+    }
+
+    /// Makes calls that are lent these bytes for reading, and ends the program unless the bytes are as they were.
+    pub fn watched(&mut self, bytes: &[u8], calls: impl FnOnce(&mut Self)) {
+        let mut before = std::mem::take(&mut self.before);
+        before.clear();
+        before.extend_from_slice(bytes);
+        calls(self);
+        // looked at anew: the compiler takes for granted that bytes lent for reading stay as they are
+        agree(
+            "bytes lent for reading are changed",
+            &before,
+            &black_box(bytes),
+            &&before[..],
+        );
+        self.before = before;
     }
 
     /// An answer to a call that does not write was equal: it is counted, and handed to the recorder where it is the original's own.
@@ -55,6 +76,28 @@ impl Bench {
         self.tally.count(call, rule);
         if let (Some(recorder), None) = (&mut self.recorder, rule) {
             recorder.offer(call, sort, &[], input, || numbers(record));
+        }
+    }
+
+    /// What the original answers to a call that has no door, and what document 01 says.
+    pub fn item(&mut self, item: Item, input: &[u8], original: Answer, paper: &Answer) {
+        agree(
+            "the original answers otherwise than document 01",
+            input,
+            &original,
+            paper,
+        );
+        self.tally.count_item(item, false);
+        if let Some(recorder) = &mut self.recorder {
+            recorder.put(item, input, &original);
+        }
+    }
+
+    /// What document 01 says of a call that the original does not have.
+    pub fn item_by_rule(&mut self, item: Item, input: &[u8], paper: Answer) {
+        self.tally.count_item(item, true);
+        if let Some(recorder) = &mut self.recorder {
+            recorder.put(item, input, &paper);
         }
     }
 
@@ -77,9 +120,12 @@ impl Bench {
         B: Fn(&mut [u8]) -> Option<Result<usize, skrolvind::Refusal>>,
     {
         match wanted {
-            Err(_) => {
+            Err(refusal) => {
                 self.in_room(writer, wanted, rule, 0);
                 self.in_room(writer, wanted, rule, 40);
+                if refusal.number == 2 && writer.bytes.len() > SHORT {
+                    self.in_room(writer, wanted, rule, PLENTY);
+                }
             }
             Ok(needed) => {
                 for room in [0, needed / 2, needed - 1] {
@@ -104,13 +150,13 @@ impl Bench {
         B: Fn(&mut [u8]) -> Option<Result<usize, skrolvind::Refusal>>,
     {
         self.fill(room);
-        let record = (writer.flat)(&mut self.lent[..room]);
+        let record = (writer.flat)(&mut self.lent[AROUND..][..room]);
         if record != expected::written(wanted) {
             self.differ("a writer answers otherwise", writer, room, &record, &wanted);
         }
         self.contents(writer, wanted, room);
         self.fill(room);
-        let Some(answer) = (writer.bound)(&mut self.lent[..room]) else {
+        let Some(answer) = (writer.bound)(&mut self.lent[AROUND..][..room]) else {
             self.tally.count(writer.call, rule);
             return;
         };
@@ -136,6 +182,9 @@ impl Bench {
         room: usize,
     ) {
         self.tally.count(writer.call, rule);
+        if room > LONGEST_ROOM {
+            return;
+        }
         if let (Some(recorder), None) = (&mut self.recorder, rule) {
             let room_length = (room as u16).to_be_bytes();
             let arguments = [&room_length[..], &(writer.arguments)()].concat();
@@ -146,10 +195,10 @@ impl Bench {
         }
     }
 
-    /// Fills the room and what is behind it, with another byte each time.
+    /// Fills the room and what is around it, with another byte each time.
     fn fill(&mut self, room: usize) {
         self.filler = self.filler.wrapping_add(0x3B);
-        self.lent[..room + BEHIND].fill(self.filler);
+        self.lent[..room + 2 * AROUND].fill(self.filler);
     }
 
     /// The bytes written are the original's, and every other byte is what it was.
@@ -160,7 +209,8 @@ impl Bench {
         room: usize,
     ) {
         let count = wanted.unwrap_or(0);
-        let (written, kept) = self.lent[..room + BEHIND].split_at(count);
+        let (before, rest) = self.lent[..room + 2 * AROUND].split_at(AROUND);
+        let (written, kept) = rest.split_at(count);
         if written != &self.plenty[..count] {
             differ(
                 "other bytes are written",
@@ -169,15 +219,17 @@ impl Bench {
                 &hex(&self.plenty[..count]),
             );
         }
-        if kept.iter().any(|b| *b != self.filler) {
-            differ(
-                &format!(
-                    "bytes are changed that were not to be written, after {count} bytes in a room of {room}, with {BEHIND} behind it"
-                ),
-                &(writer.input)(),
-                &hex(kept),
-                &format!("every byte {:02X}", self.filler),
-            );
+        for (place, bytes) in [("before", before), ("behind", kept)] {
+            if bytes.iter().any(|b| *b != self.filler) {
+                differ(
+                    &format!(
+                        "bytes are changed {place} the {count} to be written, in a room of {room} with {AROUND} around it"
+                    ),
+                    &(writer.input)(),
+                    &hex(bytes),
+                    &format!("every byte {:02X}", self.filler),
+                );
+            }
         }
     }
 

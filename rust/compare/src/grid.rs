@@ -1,9 +1,10 @@
 //! Chosen values at every boundary, each with each.
 use crate::bench::Bench;
-use crate::random::PIECES;
+use crate::random::{CHARACTERS, PIECES, name_with_fault};
+use crate::rng::Rng;
 use crate::write::{Routine, Transfer};
 
-const SIZES: [u128; 9] = [
+pub const SIZES: [u128; 9] = [
     0,
     1,
     255,
@@ -50,8 +51,7 @@ fn transfer(bench: &mut Bench, kind: u8, part: &[u8], sizes: [u128; 2]) {
         sizes,
         position,
     };
-    bench.written_request(t);
-    bench.written_response(t);
+    bench.written_transfer(t);
 }
 
 fn pairs() -> impl Iterator<Item = [u128; 2]> {
@@ -101,8 +101,7 @@ fn routine(bench: &mut Bench, sub_function: u8, identifier: u16, record: &[u8]) 
             identifier,
             record,
         };
-        bench.written_routine_request(r);
-        bench.written_routine_response(r);
+        bench.written_routine(r);
     }
     let [high, low] = identifier.to_be_bytes();
     bench.message(&[&[sub_function, high, low], record].concat());
@@ -171,6 +170,27 @@ pub fn long_names(bench: &mut Bench) {
     }
 }
 
+/// Names of each number of characters up to 300, of each length of character, with one fault that stands anywhere, likewise.
+pub fn far_faults(bench: &mut Bench) {
+    let mut rng = Rng::new(300);
+    for characters in 0..=300 {
+        for lengths in CHARACTERS {
+            bench.name(&name_with_fault(&mut rng, characters, lengths));
+        }
+        if characters % 3 == 0 {
+            bench.end_part();
+        }
+    }
+    for characters in 0..=300 {
+        for lengths in CHARACTERS {
+            let kind = KINDS[characters % KINDS.len()];
+            let name = name_with_fault(&mut rng, characters, lengths);
+            bench.message(&request(kind, &name, 2));
+            transfer(bench, kind, &name, [255, 256]);
+        }
+    }
+}
+
 fn long_name(len: usize) -> Vec<u8> {
     let character = ["a", "é", "日", "𐍈", "\0"][len % 5].as_bytes();
     let piece = PIECES.get(len / 5 % (PIECES.len() + 1)).copied();
@@ -231,7 +251,7 @@ fn request_front(kind: u8, name: &[u8], width: u8) -> Vec<u8> {
     message
 }
 
-fn request(kind: u8, name: &[u8], width: u8) -> Vec<u8> {
+pub fn request(kind: u8, name: &[u8], width: u8) -> Vec<u8> {
     let mut message = request_front(kind, name, width);
     message.extend((0..2 * usize::from(width)).map(|i| (7 * i + 1) as u8));
     message

@@ -5,7 +5,9 @@
 mod bench;
 mod expected;
 mod grid;
+mod items;
 mod model;
+mod null;
 mod random;
 mod read;
 mod record;
@@ -21,12 +23,13 @@ use rng::Rng;
 use std::process::exit;
 use std::time::{Duration, Instant};
 
-const USAGE: &str = "usage: compare [--seconds N] [--seed N] [--record FILE]";
+const USAGE: &str = "usage: compare [--seconds N] [--seed N] [--record FILE] [--quick]";
 
 struct Arguments {
     seconds: u64,
     seed: u64,
     record: Option<String>,
+    quick: bool,
 }
 
 fn main() {
@@ -40,15 +43,20 @@ fn main() {
     step(b, "routine messages", grid::routines);
     step(b, "groups and cuts", grid::groups);
     step(b, "long groups and names", grid::long_groups);
-    step(b, "all messages of up to 3 bytes", sweep::short_messages);
-    step(b, "messages of 4 to 7 chosen bytes", sweep::chosen_messages);
+    step(b, "sizes at their bounds read", grid::sizes);
+    step(b, "lengths of up to 300 bytes", grid::lengths);
+    step(b, "names of up to 300 bytes", grid::long_names);
+    step(b, "names with one fault far inside", grid::far_faults);
+    step(b, "numbers and names at bounds", grid::bounds);
+    step(b, "null pointers", null::pointers);
+    step(b, "what is made of a byte, or of two", items::of_bytes);
+    step(b, "trouble codes and their fields", items::trouble_codes);
+    step(b, "payloads", items::payloads);
     step(b, "names of 4 and 5 chosen bytes", sweep::names);
     step(b, "trouble-code numbers", sweep::numbers);
-    if b.recorder.is_some() {
-        step(b, "sizes at their bounds read", grid::sizes);
-        step(b, "lengths of up to 300 bytes", grid::lengths);
-        step(b, "names of up to 300 bytes", grid::long_names);
-        step(b, "numbers and names at bounds", grid::bounds);
+    if !arguments.quick {
+        step(b, "all messages of up to 3 bytes", sweep::short_messages);
+        step(b, "messages of 4 to 7 chosen bytes", sweep::chosen_messages);
     }
     let end = start + Duration::from_secs(arguments.seconds);
     step(b, "random", |b| random_rounds(b, arguments.seed, end));
@@ -99,22 +107,28 @@ fn arguments() -> Arguments {
         seconds: 60,
         seed: 1,
         record: None,
+        quick: false,
     };
     let mut given = std::env::args().skip(1);
     while let Some(name) = given.next() {
-        let Some(value) = given.next() else { usage() };
         match name.as_str() {
-            "--seconds" => arguments.seconds = number(&value),
-            "--seed" => arguments.seed = number(&value),
-            "--record" => arguments.record = Some(value),
+            "--seconds" => arguments.seconds = number(given.next()),
+            "--seed" => arguments.seed = number(given.next()),
+            "--record" => arguments.record = Some(given.next().unwrap_or_else(|| usage())),
+            "--quick" => arguments.quick = true,
             _ => usage(),
         }
+    }
+    // a list has answers of every part
+    if arguments.quick && arguments.record.is_some() {
+        usage()
     }
     arguments
 }
 
-fn number(word: &str) -> u64 {
-    word.parse().unwrap_or_else(|_| usage())
+fn number(word: Option<String>) -> u64 {
+    let number = word.and_then(|word| word.parse().ok());
+    number.unwrap_or_else(|| usage())
 }
 
 fn usage() -> ! {

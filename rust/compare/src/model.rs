@@ -1,6 +1,7 @@
 //! Document 01's rules on reading and on the desk check, written down once more and as plainly as they stand there. The original is
 //! held against them too, so that a difference shows on which side it lies.
-use oracle::plain::{FileTransfer, NextCode, Refusal, Routine};
+use oracle::plain::{FileTransfer, NextCode, Payload, PayloadSort, Refusal, Routine};
+use std::ops::RangeInclusive;
 
 type Answer<T> = Result<T, Refusal>;
 
@@ -46,6 +47,22 @@ impl Rest<'_> {
         Ok((start, len))
     }
 
+    /// The place of a name, with its length in two bytes; it must be UTF-8.
+    fn name(&mut self) -> Answer<(usize, usize)> {
+        let (start, len) = self.counted(2)?;
+        if std::str::from_utf8(&self.bytes[start..start + len]).is_err() {
+            return Err(Refusal::new(2, 0, 0));
+        }
+        Ok((start, len))
+    }
+
+    fn position(&mut self) -> Answer<u64> {
+        self.need(8)?;
+        let position = self.number(8) as u64;
+        self.at += 8;
+        Ok(position)
+    }
+
     /// A width in `prefix` bytes, and one size or two of that width.
     fn sizes(&mut self, prefix: usize, count: usize) -> Answer<[u128; 2]> {
         self.need(prefix)?;
@@ -79,11 +96,7 @@ fn begun(message: &[u8]) -> Answer<(Rest<'_>, FileTransfer)> {
 
 pub fn read_request(message: &[u8]) -> Answer<FileTransfer> {
     let (mut rest, mut read) = begun(message)?;
-    (read.start, read.len) = rest.counted(2)?;
-    let name = &message[read.start..read.start + read.len];
-    if std::str::from_utf8(name).is_err() {
-        return Err(Refusal::new(2, 0, 0));
-    }
+    (read.start, read.len) = rest.name()?;
     if !(1..=6).contains(&read.kind) {
         return Err(Refusal::new(3, read.kind.into(), 0));
     }
@@ -109,11 +122,7 @@ pub fn read_response(message: &[u8]) -> Answer<FileTransfer> {
     match read.kind {
         4 => [read.uncompressed, read.compressed] = rest.sizes(2, 2)?,
         5 => read.uncompressed = rest.sizes(2, 1)?[0],
-        6 => {
-            rest.need(8)?;
-            read.position = rest.number(8) as u64;
-            rest.at += 8;
-        }
+        6 => read.position = rest.position()?,
         _ => {}
     }
     read.tail_len = rest.left().len();
@@ -174,4 +183,117 @@ pub fn next_trouble_code(buffer: &[u8]) -> Answer<Option<NextCode>> {
         })),
         _ => Err(Refusal::new(1, 3, buffer.len() as u64)),
     }
+}
+
+/// The negative codes of routine control, and of file transfer.
+pub const NEGATIVE_CODES: [[u8; 7]; 2] = [
+    [0x12, 0x13, 0x22, 0x24, 0x31, 0x33, 0x72],
+    [0x13, 0x22, 0x24, 0x31, 0x33, 0x34, 0x70],
+];
+
+/// The bits of a byte, from bit 0 on.
+pub fn bits(byte: u8) -> [bool; 8] {
+    std::array::from_fn(|bit| byte >> bit & 1 == 1)
+}
+
+/// At least one of bits 0 to 4 is set.
+pub fn severity_valid(byte: u8) -> bool {
+    bits(byte)[..5].contains(&true)
+}
+
+/// Some bit is set in both.
+pub fn matches(mask: u8, status: u8) -> bool {
+    let both = bits(mask).into_iter().zip(bits(status));
+    both.into_iter().any(|(a, b)| a && b)
+}
+
+/// The five formats that have a name, and then the reserved.
+pub fn format(byte: u8) -> u8 {
+    byte.min(5)
+}
+
+/// Reserved, emissions, safety, legislative, VOBD.
+pub fn group(byte: u8) -> u8 {
+    match byte {
+        0x33 => 1,
+        0xD0 => 2,
+        0xD1..=0xDF => 3,
+        0xFE => 4,
+        _ => 0,
+    }
+}
+
+/// The byte where it is one of these, else the refusal of this number with the byte.
+pub fn one_of(these: RangeInclusive<u8>, byte: u8, number: u64) -> Answer<u8> {
+    if !these.contains(&byte) {
+        return Err(Refusal::new(number, byte.into(), 0));
+    }
+    Ok(byte)
+}
+
+/// A field of so many bytes at the start of a buffer.
+pub fn field(buffer: &[u8], len: usize) -> Answer<&[u8]> {
+    let rest = Rest {
+        bytes: buffer,
+        at: 0,
+    };
+    rest.need(len)?;
+    Ok(&buffer[..len])
+}
+
+/// A payload at the start of a buffer, and how many bytes follow it.
+pub fn payload(sort: PayloadSort, buffer: &[u8]) -> Answer<(Payload, usize)> {
+    let mut rest = Rest {
+        bytes: buffer,
+        at: 0,
+    };
+    let mut read = Payload::default();
+    match sort {
+        PayloadSort::Sizes => [read.uncompressed, read.compressed] = rest.sizes(1, 2)?,
+        PayloadSort::FileSizes => [read.uncompressed, read.compressed] = rest.sizes(2, 2)?,
+        PayloadSort::DirSize => read.uncompressed = rest.sizes(2, 1)?[0],
+        PayloadSort::Position => read.position = rest.position()?,
+        PayloadSort::Block => (read.start, read.len) = rest.counted(1)?,
+        PayloadSort::Name => (read.start, read.len) = rest.name()?,
+    }
+    Ok((read, rest.left().len()))
+}
+
+/// The bytes of a payload; a name is text.
+pub fn payload_written(sort: PayloadSort, payload: &Payload, part: &[u8]) -> Answer<Vec<u8>> {
+    let sizes = [payload.uncompressed, payload.compressed];
+    Ok(match sort {
+        PayloadSort::Sizes => written_sizes(1, &sizes),
+        PayloadSort::FileSizes => written_sizes(2, &sizes),
+        PayloadSort::DirSize => written_sizes(2, &sizes[..1]),
+        PayloadSort::Position => payload.position.to_be_bytes().to_vec(),
+        PayloadSort::Block => counted(1, held(part, 255)?),
+        PayloadSort::Name => counted(2, held(part, 65_535)?),
+    })
+}
+
+/// A block length or a name, which has to be short enough for its count.
+pub fn held(part: &[u8], most: usize) -> Answer<&[u8]> {
+    if part.len() > most {
+        return Err(Refusal::new(2, 0, 0));
+    }
+    Ok(part)
+}
+
+/// These bytes after their count in `width` bytes.
+fn counted(width: usize, part: &[u8]) -> Vec<u8> {
+    let count = part.len().to_be_bytes();
+    [&count[count.len() - width..], part].concat()
+}
+
+/// Sizes at the smallest width from 1 to 16 that holds them, after the width in `prefix` bytes.
+fn written_sizes(prefix: usize, sizes: &[u128]) -> Vec<u8> {
+    let holds = |width: &usize| *width == 16 || sizes.iter().all(|size| *size < 1 << (8 * width));
+    let width = (1..=16).find(holds).expect("16 bytes hold every size");
+    let mut bytes = vec![0; prefix - 1];
+    bytes.push(width as u8);
+    for size in sizes {
+        bytes.extend(&size.to_be_bytes()[16 - width..]);
+    }
+    bytes
 }

@@ -35,6 +35,7 @@ pub fn round(bench: &mut Bench, rng: &mut Rng) {
         bench.message(&rng.bytes(noise));
         writers(bench, rng, 12);
         bench.name(&name(rng, 40));
+        far_fault(bench, rng);
         bench.number(rng.number() as u32 >> rng.below(9));
         let list = rng.below(9);
         bench.next_code(&rng.bytes(list));
@@ -43,6 +44,24 @@ pub fn round(bench: &mut Bench, rng: &mut Rng) {
     message_and_damaged(bench, rng, &message);
     writers(bench, rng, 65_600);
     bench.name(&name(rng, 5_000));
+}
+
+/// A name with one fault, checked, read and written.
+fn far_fault(bench: &mut Bench, rng: &mut Rng) {
+    let (characters, lengths) = (rng.below(301), rng.choose(&CHARACTERS));
+    let name = name_with_fault(rng, characters, lengths);
+    bench.name(&name);
+    if rng.once_in(8) {
+        bench.message(&request_of(rng, &name));
+        let sizes = [size(rng), size(rng)];
+        bench.written_transfer(Transfer {
+            kind: kind(rng),
+            part: &name,
+            format: rng.byte(),
+            sizes,
+            position: 0,
+        });
+    }
 }
 
 fn message_and_damaged(bench: &mut Bench, rng: &mut Rng, message: &[u8]) {
@@ -80,6 +99,10 @@ fn message(rng: &mut Rng, most: usize) -> Vec<u8> {
 
 fn request(rng: &mut Rng, most: usize) -> Vec<u8> {
     let name = name(rng, most);
+    request_of(rng, &name)
+}
+
+fn request_of(rng: &mut Rng, name: &[u8]) -> Vec<u8> {
     let declared = name.len() as u16;
     let mut message = vec![kind(rng)];
     message.extend(declared.to_be_bytes());
@@ -158,6 +181,41 @@ fn name(rng: &mut Rng, most: usize) -> Vec<u8> {
     name
 }
 
+/// Which lengths the characters of a name with a fault have.
+pub const CHARACTERS: [&[usize]; 6] = [
+    &[1],
+    &[2],
+    &[3],
+    &[4],
+    &[1, 2, 3, 4],
+    &[1, 1, 1, 1, 1, 1, 1, 3],
+];
+
+/// A good name of so many characters, of these lengths, with one piece in it that is not UTF-8 and stands anywhere.
+pub fn name_with_fault(rng: &mut Rng, characters: usize, lengths: &[usize]) -> Vec<u8> {
+    let place = rng.below(characters + 1);
+    let mut name = Vec::new();
+    for at in 0..=characters {
+        if at == place {
+            name.extend(rng.choose(&PIECES[GOOD_PIECES..]));
+        }
+        if at < characters {
+            name.extend(character(rng, lengths).to_string().bytes());
+        }
+    }
+    name
+}
+
+/// A character of one of these lengths.
+fn character(rng: &mut Rng, lengths: &[usize]) -> char {
+    let bounds = [0, 0x80, 0x800, 0x1_0000, 0x11_0000];
+    let length = rng.choose(lengths);
+    let (first, end) = (bounds[length - 1], bounds[length]);
+    let number = first + rng.below(end - first);
+    // a surrogate is no character; the one in its place has three bytes too
+    char::from_u32(number as u32).unwrap_or(char::REPLACEMENT_CHARACTER)
+}
+
 /// A number of any magnitude.
 fn size(rng: &mut Rng) -> u128 {
     let whole = u128::from(rng.number()) << 64 | u128::from(rng.number());
@@ -183,8 +241,8 @@ fn writers(bench: &mut Bench, rng: &mut Rng, most: usize) {
         sizes: [size(rng), size(rng)],
         position: rng.number() >> rng.below(64),
     };
-    bench.written_request(t);
-    bench.written_response(Transfer { part: &block, ..t });
+    bench.written_transfer(t);
+    bench.written_transfer(Transfer { part: &block, ..t });
     let record_len = rng.below(most);
     let record = rng.bytes(record_len);
     let r = Routine {
@@ -193,6 +251,5 @@ fn writers(bench: &mut Bench, rng: &mut Rng, most: usize) {
         identifier: rng.number() as u16,
         record: &record,
     };
-    bench.written_routine_request(r);
-    bench.written_routine_response(r);
+    bench.written_routine(r);
 }

@@ -10,13 +10,15 @@ use skrolvind::flat;
 impl Bench {
     /// Every call that takes a message.
     pub fn message(&mut self, message: &[u8]) {
-        let request = self.request(message);
-        self.desk(message, &request);
-        self.rewritten_request(message);
-        self.response(message);
-        self.rewritten_response(message);
-        self.routine_request(message);
-        self.routine_response(message);
+        self.watched(message, |bench| {
+            let request = bench.request(message);
+            bench.desk(message, &request);
+            bench.rewritten_request(message);
+            bench.response(message);
+            bench.rewritten_response(message);
+            bench.routine_request(message);
+            bench.routine_response(message);
+        });
     }
 
     fn request(&mut self, message: &[u8]) -> Result<FileTransfer, Refusal> {
@@ -145,6 +147,10 @@ impl Bench {
 
     /// A name, against Rust's own check.
     pub fn name(&mut self, name: &[u8]) {
+        self.watched(name, |bench| bench.valid_up_to(name));
+    }
+
+    fn valid_up_to(&mut self, name: &[u8]) {
         let good = match std::str::from_utf8(name) {
             Ok(_) => name.len(),
             Err(e) => e.valid_up_to(),
@@ -193,6 +199,10 @@ impl Bench {
 
     /// The next trouble code of a buffer.
     pub fn next_code(&mut self, buffer: &[u8]) {
+        self.watched(buffer, |bench| bench.next_trouble_code(buffer));
+    }
+
+    fn next_trouble_code(&mut self, buffer: &[u8]) {
         let original = oracle::next_trouble_code(buffer);
         let record = expected::next(buffer, original);
         agree(

@@ -3,7 +3,7 @@
 //! They are drawn in each part of the comparison anew, so many of each call with each refusal, or with each kind of what was accepted,
 //! and the more of them the shorter they are. The draw goes by the seed alone, so that the same command writes the same bytes.
 use crate::rng::Rng;
-use crate::tally::Call;
+use crate::tally::{Call, Item};
 use oracle::plain::Refusal;
 use std::collections::BTreeSet;
 use std::fmt::Debug;
@@ -12,15 +12,19 @@ use std::fmt::Debug;
 const HEAD: &str = include_str!("record.txt");
 /// No line crosses the end of a page.
 const PAGE: usize = 65_536;
-/// A longer input goes into no list.
+/// A longer input goes into no list, but for a name that is checked.
 const LONGEST: usize = 300;
+const LONGEST_NAME: usize = 1_300;
+/// An answer from a longer room goes into no list.
+pub const LONGEST_ROOM: usize = 400;
 /// How many of a sort are drawn in a part where the message, name or record has up to so many bytes: of one whose lines are long, and
 /// of one whose lines are short (a call that only reads, and was refused or has no kinds).
-const QUOTAS: [(usize, [usize; 2]); 4] = [
+const QUOTAS: [(usize, [usize; 2]); 5] = [
     (8, [49, 300]),
     (20, [10, 40]),
     (64, [5, 20]),
     (LONGEST, [2, 2]),
+    (LONGEST_NAME, [1, 1]),
 ];
 /// What stands in a room before the call.
 const FILLER: u8 = 0xAA;
@@ -68,7 +72,11 @@ impl Recorder {
         bytes: &[u8],
         answer: impl FnOnce() -> String,
     ) {
-        if self.ended || arguments.len() + bytes.len() > LONGEST {
+        let longest = match call {
+            Call::ValidUpTo => LONGEST_NAME,
+            _ => LONGEST,
+        };
+        if self.ended || arguments.len() + bytes.len() > longest {
             return;
         }
         let length = QUOTAS.partition_point(|(most, _)| *most < bytes.len());
@@ -89,6 +97,12 @@ impl Recorder {
         } else {
             sort.drawn.push(line);
         }
+    }
+
+    /// An answer to a call that has no door: all of these go into the list.
+    pub fn put(&mut self, item: Item, input: &[u8], answer: &Answer) {
+        let line = format!("{} {}{}", item.letter(), hex(input), answer.0);
+        self.lines.insert(line);
     }
 
     /// A part is over: what was drawn in it goes into the list.
@@ -125,6 +139,53 @@ impl Recorder {
     }
 }
 
+/// An answer as the list has it, each part of it after a space.
+#[derive(Clone, Debug, Default, PartialEq)]
+pub struct Answer(String);
+
+impl Answer {
+    pub fn of<T: Into<u64>>(numbers: impl IntoIterator<Item = T>) -> Self {
+        Self::default().and(numbers)
+    }
+
+    /// With these numbers, of which a truth is 0 or 1.
+    pub fn and<T: Into<u64>>(mut self, numbers: impl IntoIterator<Item = T>) -> Self {
+        for number in numbers {
+            self.0.push_str(&format!(" {}", number.into()));
+        }
+        self
+    }
+
+    /// With these bytes in hexadecimal.
+    pub fn bytes(self, bytes: &[u8]) -> Self {
+        Self(format!("{} {}", self.0, hex(bytes)))
+    }
+
+    /// With these truths as one word.
+    pub fn digits(mut self, truths: impl IntoIterator<Item = bool>) -> Self {
+        let digits = truths
+            .into_iter()
+            .map(|truth| if truth { '1' } else { '0' });
+        self.0.push(' ');
+        self.0.extend(digits);
+        self
+    }
+
+    /// With what was read after a refusal's three numbers; where it was refused, zeros.
+    pub fn read<const N: usize>(self, answer: Result<[u64; N], Refusal>) -> Self {
+        let none = Refusal::new(0, 0, 0);
+        let refusal = answer.err().unwrap_or(none);
+        let three = [refusal.number, refusal.first, refusal.second];
+        self.and(three).and(answer.unwrap_or([0; N]))
+    }
+
+    /// With what a writer answers that wrote these bytes, and the whole room after the call.
+    pub fn written(self, answer: Result<&[u8], Refusal>, room: usize) -> Self {
+        let answered = self.read(answer.map(|written| [written.len() as u64]));
+        answered.bytes(&filled(answer.unwrap_or(&[]), room))
+    }
+}
+
 /// Which sort an answer is: its refusal, or the kind or sub-function of what was accepted.
 pub fn sort<T>(answer: &Result<T, Refusal>, kind: impl FnOnce(&T) -> u8) -> usize {
     match answer {
@@ -151,7 +212,12 @@ pub fn numbers(record: &dyn Debug) -> String {
 
 /// The same of a writer's record, and the whole room after the call.
 pub fn with_room(record: &dyn Debug, written: &[u8], room: usize) -> String {
+    format!("{} {}", numbers(record), hex(&filled(written, room)))
+}
+
+/// A room with these bytes at its start.
+fn filled(written: &[u8], room: usize) -> Vec<u8> {
     let mut contents = written.to_vec();
     contents.resize(room, FILLER);
-    format!("{} {}", numbers(record), hex(&contents))
+    contents
 }

@@ -1,6 +1,6 @@
 //! What was compared, and how often.
 
-/// The calls, in the order of the table.
+/// The calls that a door leads to, in the order of the table.
 #[derive(Clone, Copy)]
 pub enum Call {
     ReadRequest,
@@ -31,28 +31,93 @@ const CALLS: [&str; 14] = [
     "requests rewritten",
     "responses rewritten",
     "requests judged at the desk",
-    "names checked",
+    "names checked (against core::str::from_utf8)",
     "trouble codes of numbers",
     "next trouble codes",
 ];
 
-/// Where the answer is compared with a rule of this project, since the original does not decide it.
+/// What no door leads to, in the order of the letters that the recorded list has for it.
 #[derive(Clone, Copy)]
+pub enum Item {
+    Status,
+    Severity,
+    StatusJoined,
+    SeverityJoined,
+    StatusMatches,
+    Format,
+    Group,
+    RecordNumber,
+    ByteFields,
+    ByteFieldsWritten,
+    Code,
+    CodesOf,
+    CodesEqual,
+    CodeRead,
+    CodeWritten,
+    Constants,
+    SubFunction,
+    NegativeCodes,
+    Mode,
+    ModeOfOperation,
+    FormatByte,
+    PayloadRead,
+    PayloadWritten,
+    BlockHeld,
+    NameHeld,
+    WaysBack,
+}
+
+/// The letter, for how many inputs a line stands, and what it is. The last is of the original alone.
+const ITEMS: [(char, u64, &str); 26] = [
+    ('a', 1, "status masks: bits and eight questions"),
+    ('b', 1, "severity masks: bits, eight questions, is_valid"),
+    ('c', 256, "two status masks: union and intersection"),
+    ('d', 256, "two severity masks: union and intersection"),
+    ('e', 256, "two status masks: matches"),
+    ('f', 1, "formats: which one, and its byte"),
+    ('g', 1, "groups: which one, and its byte"),
+    ('h', 1, "stored-data record numbers: value, is_reserved"),
+    ('i', 1, "status, severity, group, record number decoded"),
+    ('j', 1, "status, severity, group, record number encoded"),
+    ('k', 1, "trouble codes: their bytes and their number"),
+    ('l', 65_536, "trouble codes from every number, and back"),
+    ('m', 1, "two trouble codes: equal or not"),
+    ('n', 1, "trouble codes decoded"),
+    ('o', 1, "trouble codes encoded"),
+    ('p', 1, "constants of trouble codes and masks"),
+    ('q', 1, "routine sub-functions from and to a byte"),
+    ('r', 1, "lists of negative codes"),
+    ('s', 1, "modes of file transfer from and to a byte"),
+    ('t', 1, "mode_of_operation of requests"),
+    ('u', 1, "format bytes in and out"),
+    ('v', 1, "payloads decoded"),
+    ('w', 1, "payloads encoded"),
+    ('x', 1, "block lengths held or not"),
+    ('y', 1, "names held or not"),
+    ('-', 5 * 256, "names of bytes equal to bytes, and converted"),
+];
+
+/// Where the answer, or a part of it, is compared with a rule of this project, since the original does not decide it.
+#[derive(Clone, Copy, PartialEq)]
 pub enum Rule {
     Width,
     SubFunctionByte,
     Room,
     LongRecord,
     NoSuchValue,
+    NotText,
+    NullPointer,
     Desk,
 }
 
-const RULES: [&str; 6] = [
+const RULES: [&str; 8] = [
     "size width 0 or 17 up: refusal 6 with the width",
-    "routine request, refusal 4: the low seven bits",
+    "routine request refused with 4: the byte is the low seven bits",
     "too little room: refusal 7, and nothing is written",
     "routine record over 65,535 bytes: refusal 2",
     "kind or sub-function that does not exist: refused at once",
+    "name to be written that is not UTF-8: refusal 2",
+    "null pointer with the length 0: an empty slice like any other",
     "desk check: document 01's own",
 ];
 
@@ -60,45 +125,81 @@ const RULES: [&str; 6] = [
 #[derive(Default)]
 pub struct Tally {
     original: [u64; CALLS.len()],
+    number: [u64; CALLS.len()],
     paper: [u64; CALLS.len()],
     rules: [u64; RULES.len()],
+    items: [[u64; 2]; ITEMS.len()],
 }
 
 impl Tally {
-    /// One more answer that was equal to the original's, or, where a rule is given, to what that rule says.
+    /// One more answer that was equal to the original's, or, where a rule is given, to what that rule says. Of a sub-function's byte
+    /// the rule says no more than the byte: the refusal's number is as the original's.
     pub fn count(&mut self, call: Call, rule: Option<Rule>) {
-        match rule {
-            None => self.original[call as usize] += 1,
-            Some(rule) => {
-                self.paper[call as usize] += 1;
-                self.rules[rule as usize] += 1;
-            }
+        let column = match rule {
+            None => &mut self.original,
+            Some(Rule::SubFunctionByte) => &mut self.number,
+            Some(_) => &mut self.paper,
+        };
+        column[call as usize] += 1;
+        if let Some(rule) = rule {
+            self.rules[rule as usize] += 1;
         }
+    }
+
+    /// One more line about what no door leads to; `by_rule` where the original has no such call.
+    pub fn count_item(&mut self, item: Item, by_rule: bool) {
+        let (_, inputs, _) = ITEMS[item as usize];
+        self.items[item as usize][usize::from(by_rule)] += inputs;
     }
 
     /// How many answers were compared in all.
     pub fn all(&self) -> u64 {
-        self.original.iter().chain(&self.paper).sum()
+        let columns = [&self.original, &self.number, &self.paper];
+        let items = self.items.iter().flatten();
+        columns.into_iter().flatten().chain(items).sum()
     }
 
-    /// Prints both tables.
+    /// Prints the tables.
     pub fn print(&self) {
-        line("What was compared", "as the original", "as document 01");
+        let heads = ["as the original", "its number alone", "as document 01"];
+        line("What was compared", heads.map(String::from));
         for (i, call) in CALLS.iter().enumerate() {
-            line(call, &grouped(self.original[i]), &grouped(self.paper[i]));
+            let counts = [self.original[i], self.number[i], self.paper[i]];
+            line(call, counts.map(grouped));
         }
-        let (original, paper) = (self.original.iter().sum(), self.paper.iter().sum());
-        line("together", &grouped(original), &grouped(paper));
+        let columns = [&self.original, &self.number, &self.paper];
+        line("together", columns.map(|c| grouped(c.iter().sum())));
         println!();
-        line("By which rule of document 01", "", "how often");
+        line(
+            "By which rule of document 01",
+            ["", "", "how often"].map(String::from),
+        );
         for (rule, count) in RULES.iter().zip(self.rules) {
-            line(rule, "", &grouped(count));
+            line(rule, [String::new(), String::new(), grouped(count)]);
+        }
+        println!();
+        let heads = ["as the original", "", "as document 01"];
+        line(
+            "What no door leads to, by its letter in the recorded list",
+            heads.map(String::from),
+        );
+        for ((letter, _, what), [original, paper]) in ITEMS.iter().zip(self.items) {
+            let counts = [grouped(original), String::new(), grouped(paper)];
+            line(&format!("{letter}  {what}"), counts);
         }
     }
 }
 
-fn line(what: &str, first: &str, second: &str) {
-    println!("{what:<58}{first:>16}{second:>16}");
+impl Item {
+    /// The letter of its lines.
+    pub fn letter(self) -> char {
+        ITEMS[self as usize].0
+    }
+}
+
+fn line(what: &str, columns: [String; 3]) {
+    let [first, second, third] = columns;
+    println!("{what:<64}{first:>18}{second:>18}{third:>18}");
 }
 
 /// The number with a comma after every three digits.

@@ -95,7 +95,23 @@ fn no_such_kind(kind: u8) -> Option<Refusal> {
 }
 
 impl Bench {
-    pub fn written_request(&mut self, t: Transfer<'_>) {
+    /// Both writers of file transfer messages.
+    pub fn written_transfer(&mut self, t: Transfer<'_>) {
+        self.watched(t.part, |bench| {
+            bench.written_request(t);
+            bench.written_response(t);
+        });
+    }
+
+    /// Both writers of routine messages.
+    pub fn written_routine(&mut self, r: Routine<'_>) {
+        self.watched(r.record, |bench| {
+            bench.written_routine_request(r);
+            bench.written_routine_response(r);
+        });
+    }
+
+    fn written_request(&mut self, t: Transfer<'_>) {
         let [uncompressed, compressed] = t.sizes;
         let writer = Writer {
             call: Call::WriteRequest,
@@ -120,13 +136,17 @@ impl Bench {
         if let Some(refusal) = no_such_kind(t.kind) {
             return self.in_rooms(&writer, Err(refusal), Some(Rule::NoSuchValue));
         }
+        // the original's type for a name is text, so that it cannot be asked about any other bytes
+        let Ok(name) = std::str::from_utf8(t.part) else {
+            let refusal = Refusal::new(2, 0, 0);
+            return self.in_rooms(&writer, Err(refusal), Some(Rule::NotText));
+        };
         let room = &mut self.plenty;
-        let wanted =
-            oracle::write_request(t.kind, t.part, t.format, uncompressed, compressed, room);
+        let wanted = oracle::write_request(t.kind, name, t.format, uncompressed, compressed, room);
         self.in_rooms(&writer, wanted, None);
     }
 
-    pub fn written_response(&mut self, t: Transfer<'_>) {
+    fn written_response(&mut self, t: Transfer<'_>) {
         let [uncompressed, compressed] = t.sizes;
         let writer = Writer {
             call: Call::WriteResponse,
@@ -164,7 +184,7 @@ impl Bench {
         self.in_rooms(&writer, wanted, None);
     }
 
-    pub fn written_routine_request(&mut self, r: Routine<'_>) {
+    fn written_routine_request(&mut self, r: Routine<'_>) {
         let writer = Writer {
             call: Call::WriteRoutineRequest,
             kind: r.sub_function,
@@ -203,7 +223,7 @@ impl Bench {
         self.in_rooms(&writer, wanted, None);
     }
 
-    pub fn written_routine_response(&mut self, r: Routine<'_>) {
+    fn written_routine_response(&mut self, r: Routine<'_>) {
         let writer = Writer {
             call: Call::WriteRoutineResponse,
             kind: r.sub_function,

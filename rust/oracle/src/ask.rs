@@ -13,7 +13,7 @@ use crate::plain::{FileTransfer, NextCode, Refusal, Routine, place};
 use crate::{Decode, DecodeIter, Encode};
 
 /// The refusal by document 01's table.
-fn refusal(error: Error) -> Refusal {
+pub(crate) fn refusal(error: Error) -> Refusal {
     match error {
         Error::InsufficientData(i) => Refusal::new(1, i.needed as u64, i.available as u64),
         Error::IncorrectMessageLengthOrInvalidFormat => Refusal::new(2, 0, 0),
@@ -119,27 +119,25 @@ pub fn read_routine_response(message: &[u8]) -> Result<Routine, Refusal> {
 }
 
 /// Writes a value at the start of the room, of which there has to be plenty.
-fn write(value: &impl Encode<Error = Error>, mut room: &mut [u8]) -> Result<usize, Refusal> {
+pub(crate) fn write(
+    value: &impl Encode<Error = Error>,
+    mut room: &mut [u8],
+) -> Result<usize, Refusal> {
     value.encode(&mut room).map_err(refusal)
 }
 
-/// A name as the original takes it: its type is text, so that what is not UTF-8 cannot be handed over at all.
-fn name(bytes: &[u8]) -> Result<NamePayload<'_>, Error> {
-    let text = core::str::from_utf8(bytes);
-    NamePayload::new(text.map_err(|_| Error::IncorrectMessageLengthOrInvalidFormat)?)
-}
-
-/// Writes a file transfer request of one of the six kinds into plenty of room.
+/// Writes a file transfer request of one of the six kinds into plenty of room. The name is text, as it is in the original: what is
+/// not UTF-8 cannot be handed over at all.
 pub fn write_request(
     kind: u8,
-    name_bytes: &[u8],
+    name: &str,
     format: u8,
     uncompressed: u128,
     compressed: u128,
     room: &mut [u8],
 ) -> Result<usize, Refusal> {
     use RequestFileTransferRequest as R;
-    let name = name(name_bytes).map_err(refusal)?;
+    let name = NamePayload::new(name).map_err(refusal)?;
     let format = DataFormatIdentifier::from(format);
     let size = SizePayload::new(uncompressed, compressed);
     let request = match kind {
@@ -223,7 +221,7 @@ pub fn rewrite_response(message: &[u8], room: &mut [u8]) -> Result<usize, Refusa
     write(&response, room)
 }
 
-fn bytes(code: DtcRecord) -> [u8; 3] {
+pub(crate) fn bytes(code: DtcRecord) -> [u8; 3] {
     [code.high_byte(), code.middle_byte(), code.low_byte()]
 }
 

@@ -3,6 +3,7 @@
 //! The functions of this crate call the original and say what it answers in document 01's terms (see [`plain`]); no decision is
 //! taken on the way, except those that the stand-ins tell of in their heads.
 mod ask;
+pub mod items;
 mod missing;
 pub mod plain;
 

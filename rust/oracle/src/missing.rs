@@ -1,8 +1,9 @@
 //! Stand-ins for the original's own files that were not handed over: its errors, the negative codes, and the sub-function byte
 //! with its bit for silence.
 //!
-//! What they decide, and the original files therefore do not: that in a routine request the low seven bits alone are judged, and
-//! that refusal 4 carries those (an exception of the stated domain); and the numbers of the negative codes.
+//! What they decide, and the original files therefore do not: that the bit 0x80 of a routine request asks for silence, in what is
+//! read and in what is written; that the low seven bits alone are judged, and that refusal 4 carries those (an exception of the
+//! stated domain); and the numbers of the negative codes.
 use automotive_wire_codec::{Incomplete, InvalidWidth, ReadNumberError, WriteNumberError};
 
 /// Every refusal that the original files name.

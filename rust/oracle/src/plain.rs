@@ -50,6 +50,27 @@ pub struct NextCode {
     pub tail_len: usize,
 }
 
+/// The payloads of file transfer messages.
+#[derive(Clone, Copy, Debug, PartialEq, Eq)]
+pub enum PayloadSort {
+    Sizes,
+    FileSizes,
+    DirSize,
+    Position,
+    Block,
+    Name,
+}
+
+/// A payload; what the sort lacks is 0, and the one size of a directory is the uncompressed. `start` and `len` are the place of a block length or of a name.
+#[derive(Clone, Copy, Debug, Default, PartialEq, Eq)]
+pub struct Payload {
+    pub uncompressed: u128,
+    pub compressed: u128,
+    pub position: u64,
+    pub start: usize,
+    pub len: usize,
+}
+
 /// Where `part` begins in `message`, of which it is a part.
 #[must_use]
 pub fn place(message: &[u8], part: &[u8]) -> usize {

@@ -103,7 +103,8 @@ impl Sizes {
     }
 }
 
-mod c {
+/// The C functions themselves, over pointers: for those who have to hand over what no slice can be.
+pub mod c {
     use super::{Desk, FileTransfer, NextTroubleCode, Routine, TroubleCode, Written};
 
     unsafe extern "C" {

@@ -1,7 +1,9 @@
 //! A stand-in for the crate `automotive_wire_codec`, by the rules of document 01.
 //!
 //! What it decides, and the original therefore does not:
-//! - how a size is read from its bytes and put into them (high first);
+//! - how a size is read from its bytes and put into them (high first), and so for the numbers of two and eight bytes that are
+//!   written: a name's length, a response's width, a routine identifier, a position. (The original reads those by itself);
+//! - how many bytes a writer says that it wrote, which the original adds up;
 //! - that a width of 0 or above 16 is refused, and that the refusal carries the width (refusal 6, an exception of the stated
 //!   domain). *When* it is asked is the original's: after it has found the whole group present;
 //! - the smallest width of a number. Whether the real crate says 0 or 1 for the number 0 does not matter: the original raises a

@@ -2,8 +2,8 @@
 //! for each name.
 //!
 //! What it decides, and the original therefore does not: that the first name without a value is bit 0, the next one bit 1 and so
-//! on, and what `bits`, `intersects`, `|` and the conversions do. None of the compared functions handles a mask; it is here so
-//! that the file about trouble codes can be compiled whole.
+//! on, and what `bits`, `intersects`, `|`, `&` and the conversions do. The original decides which names there are, in which order,
+//! which of them have values of their own, and of which names a severity must have one to be valid.
 use proc_macro::{TokenStream, TokenTree};
 
 /// The attribute itself.
@@ -33,6 +33,10 @@ pub fn bitmask(number: TokenStream, item: TokenStream) -> TokenStream {
         impl core::ops::BitOr for {name} {{
             type Output = Self;
             fn bitor(self, other: Self) -> Self {{ Self(self.0 | other.0) }}
+        }}
+        impl core::ops::BitAnd for {name} {{
+            type Output = Self;
+            fn bitand(self, other: Self) -> Self {{ Self(self.0 & other.0) }}
         }}"
     )
     .parse()

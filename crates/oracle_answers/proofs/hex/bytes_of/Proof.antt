@@ -5,7 +5,7 @@ use Prim.Native.Nat.{_≤_, _-_}
 use native.Mathlib.Omega.{arith}
 use lib.ListN.{length, length-set}
 use borrow.Author.Needs.{needs}
-use Rattle.oracle_answers.proofs.Counts.{counts}
+use Rattle.oracle_text.proofs.Counts.{counts}
 use Rattle.oracle_answers.proofs.hex.bytes_of.Statement.{statement}
 use Rattle.oracle_answers.proofs.hex.bytes_of.Tie as tie
 

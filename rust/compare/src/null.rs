@@ -1,0 +1,143 @@
+//! Empty slices with a null pointer, which only C can hand over: each door must answer as it does to any other empty slice.
+use crate::bench::Bench;
+use crate::report::agree;
+use crate::tally::{Call, Rule};
+use skrolvind::flat::{self, Written, c};
+use std::fmt::Debug;
+use std::ptr::{null, null_mut};
+
+const ROOM: usize = 40;
+const FILLER: u8 = 0xA5;
+/// A message that can be rewritten, a name, a block length and a record.
+const PART: [u8; 4] = [2, 0, 1, b'a'];
+
+/// Every slice of every door.
+pub fn pointers(bench: &mut Bench) {
+    readers(bench);
+    for kind in 0..=7 {
+        transfers(bench, kind);
+    }
+    for sub_function in 0..=4 {
+        routines(bench, sub_function);
+    }
+    // SAFETY (of every block below): each pointer stands with the length of what it points to, or with the length 0.
+    writer(bench, Call::RewriteRequest, |m, n, r, k| unsafe {
+        c::skr_rewrite_request(m, n, r, k)
+    });
+    writer(bench, Call::RewriteResponse, |m, n, r, k| unsafe {
+        c::skr_rewrite_response(m, n, r, k)
+    });
+}
+
+fn readers(bench: &mut Bench) {
+    let (null, none) = (null::<u8>(), &[]);
+    reader(
+        bench,
+        Call::ReadRequest,
+        unsafe { c::skr_read_request(null, 0) },
+        flat::read_request(none),
+    );
+    reader(
+        bench,
+        Call::ReadResponse,
+        unsafe { c::skr_read_response(null, 0) },
+        flat::read_response(none),
+    );
+    reader(
+        bench,
+        Call::ReadRoutineRequest,
+        unsafe { c::skr_read_routine_request(null, 0) },
+        flat::read_routine_request(none),
+    );
+    reader(
+        bench,
+        Call::ReadRoutineResponse,
+        unsafe { c::skr_read_routine_response(null, 0) },
+        flat::read_routine_response(none),
+    );
+    reader(
+        bench,
+        Call::DeskCheck,
+        unsafe { c::skr_desk_check(null, 0) },
+        flat::desk_check(none),
+    );
+    reader(
+        bench,
+        Call::ValidUpTo,
+        unsafe { c::skr_valid_up_to(null, 0) },
+        flat::valid_up_to(none),
+    );
+    reader(
+        bench,
+        Call::NextTroubleCode,
+        unsafe { c::skr_dtc_next(null, 0) },
+        flat::dtc_next(none),
+    );
+}
+
+fn reader<T: PartialEq + Debug>(bench: &mut Bench, call: Call, ours: T, wanted: T) {
+    agree(
+        "a null pointer with the length 0 is read otherwise than an empty slice",
+        &[],
+        &ours,
+        &wanted,
+    );
+    bench.tally.count(call, Some(Rule::NullPointer));
+}
+
+fn transfers(bench: &mut Bench, kind: u8) {
+    writer(bench, Call::WriteRequest, |p, n, r, k| unsafe {
+        c::skr_write_request(kind, p, n, 0x11, 0, 255, 0, 256, r, k)
+    });
+    writer(bench, Call::WriteResponse, |p, n, r, k| unsafe {
+        c::skr_write_response(kind, p, n, 0x11, 0, 255, 0, 256, 7, r, k)
+    });
+}
+
+fn routines(bench: &mut Bench, sub_function: u8) {
+    for suppress in [false, true] {
+        writer(bench, Call::WriteRoutineRequest, |p, n, r, k| unsafe {
+            c::skr_write_routine_request(suppress, sub_function, 0x0203, p, n, r, k)
+        });
+    }
+    writer(bench, Call::WriteRoutineResponse, |p, n, r, k| unsafe {
+        c::skr_write_routine_response(sub_function, 0x0203, p, n, r, k)
+    });
+}
+
+/// A writer that is lent a part or none, and a room or none: what is empty has a null pointer, or another one.
+fn writer(
+    bench: &mut Bench,
+    call: Call,
+    write: impl Fn(*const u8, usize, *mut u8, usize) -> Written,
+) {
+    for (part, room) in [(0, 0), (0, ROOM), (PART.len(), 0)] {
+        let wanted = lent(&write, (part, false), (room, false));
+        for (null_part, null_room) in [(true, false), (false, true), (true, true)] {
+            if null_part && part > 0 || null_room && room > 0 {
+                continue;
+            }
+            let sentence =
+                "a writer takes a null pointer with the length 0 otherwise than an empty slice";
+            let ours = lent(&write, (part, null_part), (room, null_room));
+            agree(sentence, &PART[..part], &ours, &wanted);
+            bench.tally.count(call, Some(Rule::NullPointer));
+        }
+    }
+}
+
+/// What the writer answers and what it leaves in the room, each slice with its length and whether its pointer is null.
+fn lent(
+    write: &impl Fn(*const u8, usize, *mut u8, usize) -> Written,
+    (part, null_part): (usize, bool),
+    (room, null_room): (usize, bool),
+) -> (Written, [u8; ROOM]) {
+    let mut contents = [FILLER; ROOM];
+    let part_pointer = if null_part { null() } else { PART.as_ptr() };
+    let room_pointer = if null_room {
+        null_mut()
+    } else {
+        contents.as_mut_ptr()
+    };
+    (write(part_pointer, part, room_pointer, room), contents)
+}
