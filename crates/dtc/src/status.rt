@@ -50,7 +50,7 @@ impl DtcRecordRead {
     {
         match self {
             DtcRecordRead::Refused(e) => e,
-            DtcRecordRead::Accepted(_, _) => Refusal::WrongFormat,
+            DtcRecordRead::Accepted(_, _) => Refusal::WrongFormat { good: 0 },
         }
     }
 }

@@ -20,5 +20,5 @@ modeSaid (ModeAnswer.Accepted k) = accepted (kindOf k)
 modeSaid (ModeAnswer.Refused e) = refused (row e)
 
 abbrev pub modeRefusal : ModeAnswer → Refusal
-modeRefusal (ModeAnswer.Accepted k) = Refusal.WrongFormat
+modeRefusal (ModeAnswer.Accepted k) = Refusal.WrongFormat 0
 modeRefusal (ModeAnswer.Refused e) = e

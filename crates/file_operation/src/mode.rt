@@ -25,7 +25,7 @@ impl ModeAnswer {
     {
         match self {
             ModeAnswer::Refused(e) => e,
-            ModeAnswer::Accepted(_) => Refusal::WrongFormat,
+            ModeAnswer::Accepted(_) => Refusal::WrongFormat { good: 0 },
         }
     }
 }

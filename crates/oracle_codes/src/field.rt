@@ -85,7 +85,7 @@ fn encode(field: u8, b: u8, room: &mut [u8]) -> WriteAnswer {
         1 => DtcSeverityMask::from_bits(b).encode(room),
         2 => FunctionalGroupIdentifier::from_byte(b).encode(room),
         3 => DtcStoredDataRecordNumber::new(b).encode(room),
-        _ => WriteAnswer::Refused(Refusal::WrongFormat),
+        _ => WriteAnswer::Refused(Refusal::WrongFormat { good: 0 }),
     }
 }
 

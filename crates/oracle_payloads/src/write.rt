@@ -26,7 +26,7 @@ fn encode_sizes(payload: u8, uncompressed: Size, compressed: Size, room: &mut [u
         0 => put_two_sizes(Prefix::One, uncompressed, compressed, room),
         1 => put_two_sizes(Prefix::Two, uncompressed, compressed, room),
         2 => put_one_size(Prefix::Two, uncompressed, room),
-        _ => WriteAnswer::Refused(Refusal::WrongFormat),
+        _ => WriteAnswer::Refused(Refusal::WrongFormat { good: 0 }),
     }
 }
 

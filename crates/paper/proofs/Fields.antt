@@ -10,7 +10,7 @@ use lib.Dec.{leb, eqb}
 use lib.ListN.{length, getD, take, drop, length-append, length-drop, take-append-drop}
 use lib.Seq.{take-at, take-append-le, drop-at, length-take-le}
 use Rattle.paper.specs.Choice.{pick}
-use Rattle.paper.specs.Answer.{Refusal, tooShort, badWidth, wrongFormat, unknownMode, Answer, accepted, refused, _leaving_, Reader, onward, _>>=_, give, refuse, judge, handOut}
+use Rattle.paper.specs.Answer.{Refusal, tooShort, badWidth, unknownMode, Answer, accepted, refused, _leaving_, Reader, onward, _>>=_, give, refuse, judge, handOut}
 use Rattle.paper.specs.Bytes.{Bytes, ofBytes, toBytes}
 use Rattle.paper.specs.Utf8.{isUtf8}
 use Rattle.paper.specs.Sizes.{Fit, Holds}
@@ -177,7 +177,7 @@ Name = Kept (List ℕ) (List ℕ) isUtf8 (λ (n : List ℕ). n) (Count 2)
 
 pub reads-name : Reads (List ℕ) name Name
 unfolding name
-reads-name = reads-kept isUtf8 (λ n. wrongFormat) (λ (n : List ℕ). n) (reads-counted 2)
+reads-name = reads-kept isUtf8 _ (λ (n : List ℕ). n) (reads-counted 2)
 
 -- ---- sizes of one width
 empty : (s : List ℕ) → length s ≡ 0 → [] ≡ s

@@ -8,6 +8,7 @@ pub mod Fields
 pub mod Places
 pub mod Width
 pub mod Request
+pub mod BadName
 pub mod Response
 pub mod RoutineControl
 pub mod TroubleCode

@@ -37,6 +37,7 @@ lines =
     -- a refusal: its number and what it carries
     ∷ (0x01 ∷ 0x00 ∷ 0x01 ∷ 0x61 ∷ 0x00 ∷ 0x00 ∷ [], "refused 6 0 0\n")
     ∷ (0x07 ∷ 0x00 ∷ 0x02 ∷ 0x61 ∷ [], "refused 1 4 3\n")
+    ∷ (0x02 ∷ 0x00 ∷ 0x03 ∷ 0x61 ∷ 0xFF ∷ 0x62 ∷ [], "refused 2 1 0\n")
     -- no byte, 4,096 bytes and one more
     ∷ ([], "refused 1 1 0\n")
     ∷ (replicate 4096 0, "refused 3 0 0\n")

@@ -9,7 +9,7 @@ use borrow.Author.Tests.{le-leb, leb-true, lt-leb}
 use lib.Dec.{lit<, leb}
 use lib.ListN.{length, take, drop, replicate, length-append, length-replicate}
 use lib.Seq.{take-at}
-use Rattle.paper.specs.Answer.{accepted, refused, wrongFormat, check, _leaving_}
+use Rattle.paper.specs.Answer.{accepted, refused, wrongFormat, _leaving_}
 use Rattle.paper.specs.Bytes.{Bytes, toBytes}
 use Rattle.paper.specs.Sizes.{Fit, Holds, fit, firstFit, width}
 use Rattle.paper.specs.Utf8.{isUtf8}
@@ -33,8 +33,8 @@ use Rattle.paper.proofs.Width.{Shaped, shaped-same, shaped-after, shape
 pub good-name : (n x : List ℕ) → (goodName n ≡ accepted x) ↔ ((x ≡ n) × IsName n)
 unfolding goodName
 good-name n x = (
-  λ e. let (short, rest) = check-passed (leb (length n) 65535) wrongFormat (check (isUtf8 n) wrongFormat (accepted n)) e in
-      let (utf8, same) = check-passed (isUtf8 n) wrongFormat (accepted n) rest in
+  λ e. let (short, rest) = check-passed (leb (length n) 65535) _ _ e in
+      let (utf8, same) = check-passed (isUtf8 n) _ (accepted n) rest in
       (cc, record { utf8 = is-utf8 n .0 utf8; short = leb-true _ _ short }),
   λ h. rw (le-leb (length n) 65535 (h .1 .short), is-utf8 n .1 (h .1 .utf8), h .0),
 )
@@ -224,7 +224,7 @@ accepts m w =
     rw (good-name (m .name) (m .name) .1 (refl, rw named at (w .named)))
 
 -- a name over 65,535 bytes is
-pub name-too-long : (m : Request) → 65535 < length (m .name) → writeRequest m ≡ refused wrongFormat
+pub name-too-long : (m : Request) → 65535 < length (m .name) → writeRequest m ≡ refused (wrongFormat 0)
 unfolding goodName writeRequest
 name-too-long m many = rw (lt-leb _ _ many)
 

@@ -31,7 +31,7 @@ use Rattle.paper.proofs.Width.{Shaped, shaped-same, shaped-after, shape
 pub good-block-length : (b x : List ℕ) → (goodBlockLength b ≡ accepted x) ↔ ((x ≡ b) × (length b ≤ 255))
 unfolding goodBlockLength
 good-block-length b x = (
-  λ e. let (short, same) = check-passed (leb (length b) 255) wrongFormat (accepted b) e in (cc, leb-true _ _ short),
+  λ e. let (short, same) = check-passed (leb (length b) 255) (wrongFormat 0) (accepted b) e in (cc, leb-true _ _ short),
   λ h. rw (le-leb (length b) 255 (h .1), h .0),
 )
 

@@ -260,7 +260,7 @@ request-round m u v few =
     (rw (le-leb _ _ few, v .is), record { bytes = bytes; whole = routine-request-layout u m [] bytes .1 (v, refl) })
 
 -- a longer record is refused
-pub request-too-long : (m : RoutineRequest) → 65535 < length (m .«record») → writeRoutineRequest m ≡ refused wrongFormat
+pub request-too-long : (m : RoutineRequest) → 65535 < length (m .«record») → writeRoutineRequest m ≡ refused (wrongFormat 0)
 unfolding writeRoutineRequest
 request-too-long m many = rw (lt-leb _ _ many)
 
@@ -273,6 +273,6 @@ response-round m u v few =
     let bytes : Bytes u = rw (v .is) (bytes-laid _ (m .identifier) (m .«record») small (v .identifier) (v .bytes)) in
     (rw (le-leb _ _ few, v .is), record { bytes = bytes; whole = routine-response-layout u m [] bytes .1 (v, refl) })
 
-pub response-too-long : (m : RoutineResponse) → 65535 < length (m .«record») → writeRoutineResponse m ≡ refused wrongFormat
+pub response-too-long : (m : RoutineResponse) → 65535 < length (m .«record») → writeRoutineResponse m ≡ refused (wrongFormat 0)
 unfolding writeRoutineResponse
 response-too-long m many = rw (lt-leb _ _ many)

@@ -307,6 +307,11 @@ longest-once s r q a b = omega (arith, b .most r (a .within) (a .good), a .most 
 pub longest-is : (s : List ℕ) (r : ℕ) → Longest s r → r ≡ validUpTo s
 longest-is s r h = longest-once s r (validUpTo s) h (valid-up-to s)
 
+-- it has all the bytes exactly if the test says yes
+pub whole-is : (s : List ℕ) (r : ℕ) → Longest s r → eqb r (length s) ≡ isUtf8 s
+unfolding isUtf8
+whole-is s r h = ap (λ (k : ℕ). eqb k (length s)) (longest-is s r h)
+
 -- the test accepts exactly the strings of the grammar
 pub is-utf8 : (s : List ℕ) → (isUtf8 s ≡ true) ↔ Utf8 s
 unfolding isUtf8

@@ -3,7 +3,7 @@
 use mathlib.Core.Path.{_≡_, refl}
 use Prim.Native.Nat.{ℕ, _-_, _^_}
 use mathlib.Core.Bool.{true, false}
-use mathlib.Core.List.{List, [], _∷_, map}
+use mathlib.Core.List.{List, [], _∷_, _++_, map}
 use lib.ListN.{replicate}
 use Rattle.paper.specs.Answer.{Refusal, refusal, tooShort, wrongFormat, unknownMode, unknownSubFunction, noTroubleCode, badWidth, noRoom}
 use Rattle.paper.specs.Answer.{compressedAbove, leftOver, accepted, refused, _leaving_, _>>=_, give, refuse, over, written}
@@ -20,8 +20,8 @@ use Rattle.paper.specs.RoutineControl.{wholeRest, readRoutineRequest, re
 use Rattle.paper.specs.Desk.{deskCheck}
 
 -- the table of refusals: the number of each, and what it carries
-refusals : map {B = ℕ × ℕ × ℕ} (λ (r : Refusal). (r .number, r .first, r .second)) (tooShort 4 3 ∷ wrongFormat ∷ unknownMode 7 ∷ unknownSubFunction 9 ∷ noTroubleCode 0x01000000 ∷ badWidth 17 ∷ noRoom 4 3 ∷ compressedAbove ∷ leftOver 5 ∷ [])
-    ≡ (1, 4, 3) ∷ (2, 0, 0) ∷ (3, 7, 0) ∷ (4, 9, 0) ∷ (5, 0x01000000, 0) ∷ (6, 17, 0) ∷ (7, 4, 3) ∷ (8, 0, 0) ∷ (9, 5, 0) ∷ []
+refusals : map {B = ℕ × ℕ × ℕ} (λ (r : Refusal). (r .number, r .first, r .second)) (tooShort 4 3 ∷ wrongFormat 150 ∷ unknownMode 7 ∷ unknownSubFunction 9 ∷ noTroubleCode 0x01000000 ∷ badWidth 17 ∷ noRoom 4 3 ∷ compressedAbove ∷ leftOver 5 ∷ [])
+    ≡ (1, 4, 3) ∷ (2, 150, 0) ∷ (3, 7, 0) ∷ (4, 9, 0) ∷ (5, 0x01000000, 0) ∷ (6, 17, 0) ∷ (7, 4, 3) ∷ (8, 0, 0) ∷ (9, 5, 0) ∷ []
 refusals = refl
 
 -- 2^64 - 1 takes 8 bytes, 2^64 takes 9, 2^128 - 1 takes 16, and two zeros take 1
@@ -93,6 +93,28 @@ writing : (let m = request deleteFile (0x61 ∷ []) 7 8 9 in
     × (writeResponse (response addFile (replicate 256 0) 0 0 0 0) ≡ refused (refusal 2 0 0)))
 unfolding over toBytes inRange begins firstRow charLength validFrom validUpTo isUtf8 withCount requestAt requestBytes goodName writeRequest responseAt responseBytes asRead goodBlockLength writeResponse
 writing = (refl, refl, refl, refl, refl, refl)
+
+-- where a name goes bad: before a character that is cut, at its end or by another byte; at the first byte; after two letters of three bytes; at the 151st letter
+abbrev badNames : List (List ℕ × ℕ)
+badNames =
+    (0x61 ∷ 0xE2 ∷ 0x82 ∷ [], 1)
+    ∷ (0x61 ∷ 0xE2 ∷ 0x82 ∷ 0x62 ∷ [], 1)
+    ∷ (0xFF ∷ 0x61 ∷ [], 0)
+    ∷ (0xC3 ∷ 0xBC ∷ 0x62 ∷ 0x80 ∷ [], 3)
+    ∷ (replicate 150 0x61 ++ (0xFC ∷ replicate 49 0x61), 150)
+    ∷ []
+
+-- the reader, the desk and the writer say so
+bad-names : (map (λ (x : List ℕ × ℕ). readRequest (0x02 ∷ withCount 2 (x .0))) badNames ≡ map (λ (x : List ℕ × ℕ). refused (refusal 2 (x .1) 0)) badNames)
+    × (map (λ (x : List ℕ × ℕ). deskCheck (0x02 ∷ withCount 2 (x .0))) badNames ≡ map (λ (x : List ℕ × ℕ). refused (refusal 2 (x .1) 0)) badNames)
+    × (map (λ (x : List ℕ × ℕ). writeRequest (request deleteFile (x .0) 0 0 0)) badNames ≡ map (λ (x : List ℕ × ℕ). refused (refusal 2 (x .1) 0)) badNames)
+unfolding deskCheck _>>=_ give refuse ofBytes toBytes inRange begins firstRow charLength validFrom validUpTo isUtf8 part headed counted byte name withCount readRequest goodName writeRequest
+bad-names = (refl, refl, refl)
+
+-- an over-long name carries 0, and so does one that is not UTF-8 either
+over-long-names : map (λ (b : ℕ). writeRequest (request deleteFile (replicate 65536 b) 0 0 0)) (0x61 ∷ 0xFF ∷ []) ≡ replicate 2 (refused (refusal 2 0 0))
+unfolding goodName writeRequest
+over-long-names = refl
 
 -- rewriting into a buffer: sizes at width 2, with a byte after them, are written at width 1, and the byte is the tail; too little room, and a message that can't be read, change nothing
 into : (let s : List ℕ = 0x01 ∷ 0x00 ∷ 0x00 ∷ 0x11 ∷ 0x02 ∷ 0x00 ∷ 0x01 ∷ 0x00 ∷ 0x02 ∷ 0x5A ∷ [] in

@@ -20,9 +20,9 @@ refusal n a b = record { number = n; first = a; second = b }
 abbrev pub tooShort : ℕ → ℕ → Refusal
 tooShort needed available = refusal 1 needed available
 
--- the name is not UTF-8; or the name, the block length or the routine record is too long
-abbrev pub wrongFormat : Refusal
-wrongFormat = refusal 2 0 0
+-- the name is not UTF-8, with the length of its longest beginning that is; or the name, the block length or the routine record is too long, with 0
+abbrev pub wrongFormat : ℕ → Refusal
+wrongFormat good = refusal 2 good 0
 
 -- the mode is 0x00 or 0x07 to 0xFF
 abbrev pub unknownMode : ℕ → Refusal

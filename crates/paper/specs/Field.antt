@@ -9,7 +9,7 @@ use lib.Dec.{leb}
 use Rattle.paper.specs.Choice.{pick, both}
 use Rattle.paper.specs.Answer.{accepted, refused, tooShort, wrongFormat, badWidth, _leaving_, Reader, onward, _>>=_, give, judge}
 use Rattle.paper.specs.Bytes.{ofBytes, toBytes}
-use Rattle.paper.specs.Utf8.{isUtf8}
+use Rattle.paper.specs.Utf8.{validUpTo, isUtf8}
 use Rattle.paper.specs.Sizes.{width}
 
 -- ---- reading
@@ -46,11 +46,11 @@ counted k = do
   h ← headed k (λ (n : ℕ). n)
   give (h .body)
 
--- the name with its length in two bytes; it must be UTF-8
+-- the name with its length in two bytes; it must be UTF-8, else the refusal says up to where it is
 unfoldable pub name : Reader (List ℕ)
 name = do
   n ← counted 2
-  judge (isUtf8 n) wrongFormat n
+  judge (isUtf8 n) (wrongFormat (validUpTo n)) n
 
 -- the block length with its count in one byte
 abbrev pub blockLength : Reader (List ℕ)

@@ -12,4 +12,5 @@ pub mod Response
 pub mod RoutineControl
 pub mod TroubleCode
 pub mod Desk
+pub mod BadName
 pub mod ReadingProgram

@@ -5,7 +5,7 @@ use mathlib.Core.List.{List, [], _∷_, _++_}
 use lib.ListN.{length}
 use lib.Dec.{leb}
 use Rattle.paper.specs.Answer.{Answer, accepted, wrongFormat, check, _then_, Reader, _>>=_, give, handOut}
-use Rattle.paper.specs.Utf8.{Utf8, isUtf8}
+use Rattle.paper.specs.Utf8.{Utf8, validUpTo, isUtf8}
 use Rattle.paper.specs.Sizes.{Fit, Holds, width}
 use Rattle.paper.specs.Kind.{Kind, addFile, deleteFile, replaceFile, readFile, readDir, resumeFile, modeOf, known}
 use Rattle.paper.specs.Rewriting.{rewriting}
@@ -70,9 +70,9 @@ requestAt w m = modeOf (m .kind) ∷ (withCount 2 (m .name) ++ writeAfterName w 
 unfoldable pub requestBytes : Request → List ℕ
 requestBytes m = requestAt (width (requestSizes m)) m
 
--- the checks of a name when writing: too long, then not UTF-8
+-- the checks of a name when writing: too long, then not UTF-8, with up to where it is
 unfoldable pub goodName : List ℕ → Answer (List ℕ)
-goodName n = check (leb (length n) 65535) wrongFormat (check (isUtf8 n) wrongFormat (accepted n))
+goodName n = check (leb (length n) 65535) (wrongFormat 0) (check (isUtf8 n) (wrongFormat (validUpTo n)) (accepted n))
 
 -- the checks when writing are those of the name (the check of room comes with the buffer)
 unfoldable pub writeRequest : Request → Answer (List ℕ)

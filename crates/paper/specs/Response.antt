@@ -114,7 +114,7 @@ asRead m = keptAfterMode (afterMode (m .kind)) m
 
 -- the check of a block length when writing: too long
 unfoldable pub goodBlockLength : List ℕ → Answer (List ℕ)
-goodBlockLength b = check (leb (length b) 255) wrongFormat (accepted b)
+goodBlockLength b = check (leb (length b) 255) (wrongFormat 0) (accepted b)
 
 -- the check when writing is that of the block length, where the kind has one (the check of room comes with the buffer)
 unfoldable pub writeResponse : Response → Answer (List ℕ)

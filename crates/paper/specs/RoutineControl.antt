@@ -95,10 +95,10 @@ pub record RoutineResponseWay (m : RoutineResponse) (u : List ℕ) : Type 0 wher
 
 -- the check when writing: the record too long (the check of room comes with the buffer)
 unfoldable pub writeRoutineRequest : RoutineRequest → Answer (List ℕ)
-writeRoutineRequest m = check (leb (length (m .«record»)) 65535) wrongFormat (accepted (routineRequestBytes m))
+writeRoutineRequest m = check (leb (length (m .«record»)) 65535) (wrongFormat 0) (accepted (routineRequestBytes m))
 
 unfoldable pub writeRoutineResponse : RoutineResponse → Answer (List ℕ)
-writeRoutineResponse m = check (leb (length (m .«record»)) 65535) wrongFormat (accepted (routineResponseBytes m))
+writeRoutineResponse m = check (leb (length (m .«record»)) 65535) (wrongFormat 0) (accepted (routineResponseBytes m))
 
 -- ---- the permitted negative codes, in source order
 abbrev pub fileTransferNegativeCodes : List ℕ

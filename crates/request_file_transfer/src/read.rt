@@ -54,7 +54,7 @@ impl RequestAnswer {
     {
         match self {
             RequestAnswer::Refused(e) => e,
-            RequestAnswer::Accepted(_, _) => Refusal::WrongFormat,
+            RequestAnswer::Accepted(_, _) => Refusal::WrongFormat { good: 0 },
         }
     }
 }
@@ -76,7 +76,7 @@ impl RestAnswer {
     {
         match self {
             RestAnswer::Refused(e) => e,
-            RestAnswer::Accepted(_, _) => Refusal::WrongFormat,
+            RestAnswer::Accepted(_, _) => Refusal::WrongFormat { good: 0 },
         }
     }
 }

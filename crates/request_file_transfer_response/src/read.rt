@@ -74,7 +74,7 @@ impl ResponseAnswer {
     {
         match self {
             ResponseAnswer::Refused(e) => e,
-            ResponseAnswer::Accepted(_, _) => Refusal::WrongFormat,
+            ResponseAnswer::Accepted(_, _) => Refusal::WrongFormat { good: 0 },
         }
     }
 }
@@ -96,7 +96,7 @@ impl MoreAnswer {
     {
         match self {
             MoreAnswer::Refused(e) => e,
-            MoreAnswer::Accepted(_, _) => Refusal::WrongFormat,
+            MoreAnswer::Accepted(_, _) => Refusal::WrongFormat { good: 0 },
         }
     }
 }
@@ -203,7 +203,7 @@ impl BodyAnswer {
     {
         match self {
             BodyAnswer::Refused(e) => e,
-            BodyAnswer::Accepted(_, _) => Refusal::WrongFormat,
+            BodyAnswer::Accepted(_, _) => Refusal::WrongFormat { good: 0 },
         }
     }
 }

@@ -35,7 +35,7 @@ pub fn good_block_length(block: &[u8]) -> WriteAnswer
 {
     let len = block.len();
     if 255 < len {
-        return WriteAnswer::Refused(Refusal::WrongFormat);
+        return WriteAnswer::Refused(Refusal::WrongFormat { good: 0 });
     }
     WriteAnswer::Accepted(len)
 }

@@ -20,14 +20,14 @@ use Rattle.wire.proofs.Writes.{refuses, writes, malformed, passed, filled}
 module _ (b n : ℕ) (r : List ℕ) where
   -- the message: the record is judged, and then the three parts are laid out
   abbrev pub routineOut : Answer (List ℕ)
-  routineOut = check (leb (length r) 65535) wrongFormat (accepted (routineLaid b n r))
+  routineOut = check (leb (length r) 65535) (wrongFormat 0) (accepted (routineLaid b n r))
 
   length-laid : length (routineLaid b n r) ≡ 3 + length r
   length-laid = omega (arith, length-append (toBytes 2 n) r, length-toBytes 2 n)
 
   module _ {old : List ℕ} where
     -- the record is too long
-    pub too-long : 65535 < length r → Wrote routineOut old (WriteAnswer.Refused Refusal.WrongFormat) old
+    pub too-long : 65535 < length r → Wrote routineOut old (WriteAnswer.Refused (Refusal.WrongFormat 0)) old
     too-long h = malformed (rw (lt-leb _ _ h))
 
     module _ (fits : length r ≤ 65535) where

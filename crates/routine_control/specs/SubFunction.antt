@@ -22,7 +22,7 @@ subSaid (SubFunctionAnswer.Accepted f) = accepted (subOf f)
 subSaid (SubFunctionAnswer.Refused e) = refused (row e)
 
 abbrev pub subRefusal : SubFunctionAnswer → Refusal
-subRefusal (SubFunctionAnswer.Accepted f) = Refusal.WrongFormat
+subRefusal (SubFunctionAnswer.Accepted f) = Refusal.WrongFormat 0
 subRefusal (SubFunctionAnswer.Refused e) = e
 
 -- the first byte of a request: whether to be silent, and the sub-function
@@ -43,5 +43,5 @@ suppressSaid (SuppressableAnswer.Accepted c) = accepted (record { suppress = c .
 suppressSaid (SuppressableAnswer.Refused e) = refused (row e)
 
 abbrev pub suppressRefusal : SuppressableAnswer → Refusal
-suppressRefusal (SuppressableAnswer.Accepted c) = Refusal.WrongFormat
+suppressRefusal (SuppressableAnswer.Accepted c) = Refusal.WrongFormat 0
 suppressRefusal (SuppressableAnswer.Refused e) = e

@@ -63,7 +63,7 @@ pub fn write_routine_request(
     ensures { λ r. ⌜ Wrote (requestToWrite «suppress_positive_response» «sub_function» «routine_id» (now («option_record» .entry))) (now (out .entry)) r (now (out .exit)) ⌝ }
 {
     if 65535 < option_record.len() {
-        return WriteAnswer::Refused(Refusal::WrongFormat);
+        return WriteAnswer::Refused(Refusal::WrongFormat { good: 0 });
     }
     let needed = 3 + option_record.len();
     let room = out.len();

@@ -58,7 +58,7 @@ pub fn write_routine_response(
     ensures { λ r. ⌜ Wrote (responseToWrite «sub_function» «routine_id» (now («status_record» .entry))) (now (out .entry)) r (now (out .exit)) ⌝ }
 {
     if 65535 < status_record.len() {
-        return WriteAnswer::Refused(Refusal::WrongFormat);
+        return WriteAnswer::Refused(Refusal::WrongFormat { good: 0 });
     }
     let needed = 3 + status_record.len();
     let room = out.len();

@@ -23,7 +23,7 @@ impl RoutineBytesAnswer {
     {
         match self {
             RoutineBytesAnswer::Refused(e) => e,
-            RoutineBytesAnswer::Accepted(_, _) => Refusal::WrongFormat,
+            RoutineBytesAnswer::Accepted(_, _) => Refusal::WrongFormat { good: 0 },
         }
     }
 }

@@ -22,7 +22,7 @@ impl SubFunctionAnswer {
     {
         match self {
             SubFunctionAnswer::Refused(e) => e,
-            SubFunctionAnswer::Accepted(_) => Refusal::WrongFormat,
+            SubFunctionAnswer::Accepted(_) => Refusal::WrongFormat { good: 0 },
         }
     }
 }
@@ -70,7 +70,7 @@ impl SuppressableAnswer {
     {
         match self {
             SuppressableAnswer::Refused(e) => e,
-            SuppressableAnswer::Accepted(_) => Refusal::WrongFormat,
+            SuppressableAnswer::Accepted(_) => Refusal::WrongFormat { good: 0 },
         }
     }
 }

@@ -55,7 +55,7 @@ prefix-holds One h = omega arith
 prefix-holds Two h = omega arith
 
 -- a run that is longer than its count can say, and one that is not
-pub counted-long : (k : ℕ) {most : ℕ} (x : List ℕ) → most < length x → countedRun k most x ≡ refused wrongFormat
+pub counted-long : (k : ℕ) {most : ℕ} (x : List ℕ) → most < length x → countedRun k most x ≡ refused (wrongFormat 0)
 unfolding countedRun
 counted-long k x h = rw (lt-leb _ _ h)
 

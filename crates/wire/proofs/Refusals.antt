@@ -14,13 +14,13 @@ refusalBack e =
     let a = e .first in
     let b = e .second in
     getD
-    (WrongFormat ∷ TooShort a b ∷ WrongFormat ∷ UnknownMode a ∷ UnknownSubFunction a ∷ NoTroubleCode a ∷ BadWidth a ∷ NoRoom a b ∷ CompressedAbove ∷ LeftOver a ∷ [])
+    (WrongFormat 0 ∷ TooShort a b ∷ WrongFormat a ∷ UnknownMode a ∷ UnknownSubFunction a ∷ NoTroubleCode a ∷ BadWidth a ∷ NoRoom a b ∷ CompressedAbove ∷ LeftOver a ∷ [])
     (e .number)
-    WrongFormat
+    (WrongFormat 0)
 
 pub refusal-back : (e : Refusal) → refusalBack (row e) ≡ e
 refusal-back (TooShort a b) = refl
-refusal-back WrongFormat = refl
+refusal-back (WrongFormat a) = refl
 refusal-back (UnknownMode a) = refl
 refusal-back (UnknownSubFunction a) = refl
 refusal-back (NoTroubleCode a) = refl

@@ -41,7 +41,7 @@ WidthRight k c s at (WidthAnswer.Good w) = (ofBytes (take k (drop at s)) ≡ w) 
 WidthRight k c s at (WidthAnswer.Refused e) = refused (row e) ≡ sizeGroup k c (drop at s)
 
 abbrev pub widthRefusal : WidthAnswer → Refusal
-widthRefusal (WidthAnswer.Good w) = Refusal.WrongFormat
+widthRefusal (WidthAnswer.Good w) = Refusal.WrongFormat 0
 widthRefusal (WidthAnswer.Refused e) = e
 
 -- the low half of the size is a half, and the next field begins within the message

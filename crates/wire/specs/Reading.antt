@@ -27,9 +27,9 @@ pub record Right (A M : Type 0) (meaning : A → M) (field : Reader M) (Place : 
   pub paper : said meaning s r ≡ field (drop at s)
   pub place : placed Place r
 
--- what a caller that leaves answers: the refusal (and of a value that was found, where there is none, WrongFormat)
+-- what a caller that leaves answers: the refusal (and of a value that was found, where there is none, WrongFormat with 0)
 abbrev pub refusalIn : {A : Type 0} → Seen A → Refusal
-refusalIn (found a next) = Refusal.WrongFormat
+refusalIn (found a next) = Refusal.WrongFormat 0
 refusalIn (stopped e) = e
 
 -- the next field begins n bytes on, within the message

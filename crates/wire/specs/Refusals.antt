@@ -6,7 +6,7 @@ use Rattle.wire.specs.declared.refusal.Refusal.the-variants.{TooShort, W
 
 abbrev pub row : Refusal → paper.Refusal
 row (TooShort needed available) = tooShort needed available
-row WrongFormat = wrongFormat
+row (WrongFormat good) = wrongFormat good
 row (UnknownMode b) = unknownMode b
 row (UnknownSubFunction b) = unknownSubFunction b
 row (NoTroubleCode n) = noTroubleCode n

@@ -27,7 +27,7 @@ pub record Filled (bytes old new : List ℕ) : Type 0 where
 -- ---- the bytes of a field
 -- bytes after their count in k bytes, which holds at most `most`
 unfoldable pub countedRun : ℕ → ℕ → List ℕ → Answer (List ℕ)
-countedRun k most x = check (leb (length x) most) wrongFormat (accepted (withCount k x))
+countedRun k most x = check (leb (length x) most) (wrongFormat 0) (accepted (withCount k x))
 
 -- sizes at their smallest width, after the width in k bytes
 unfoldable pub sizesOut : ℕ → List ℕ → List ℕ

@@ -27,7 +27,7 @@ impl SizeAnswer {
     {
         match self {
             SizeAnswer::Refused(e) => e,
-            SizeAnswer::Accepted(_, _) => Refusal::WrongFormat,
+            SizeAnswer::Accepted(_, _) => Refusal::WrongFormat { good: 0 },
         }
     }
 }
@@ -75,7 +75,7 @@ impl WidthAnswer {
     {
         match self {
             WidthAnswer::Refused(e) => e,
-            WidthAnswer::Good(_) => Refusal::WrongFormat,
+            WidthAnswer::Good(_) => Refusal::WrongFormat { good: 0 },
         }
     }
 }
@@ -137,7 +137,7 @@ impl TwoSizesAnswer {
     {
         match self {
             TwoSizesAnswer::Refused(e) => e,
-            TwoSizesAnswer::Accepted(_, _) => Refusal::WrongFormat,
+            TwoSizesAnswer::Accepted(_, _) => Refusal::WrongFormat { good: 0 },
         }
     }
 }

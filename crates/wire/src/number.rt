@@ -24,7 +24,7 @@ impl ByteAnswer {
     {
         match self {
             ByteAnswer::Refused(e) => e,
-            ByteAnswer::Accepted(_, _) => Refusal::WrongFormat,
+            ByteAnswer::Accepted(_, _) => Refusal::WrongFormat { good: 0 },
         }
     }
 }
@@ -84,7 +84,7 @@ impl EightAnswer {
     {
         match self {
             EightAnswer::Refused(e) => e,
-            EightAnswer::Accepted(_, _) => Refusal::WrongFormat,
+            EightAnswer::Accepted(_, _) => Refusal::WrongFormat { good: 0 },
         }
     }
 }

@@ -27,7 +27,7 @@ impl PlaceAnswer {
     {
         match self {
             PlaceAnswer::Refused(e) => e,
-            PlaceAnswer::Accepted(_, _) => Refusal::WrongFormat,
+            PlaceAnswer::Accepted(_, _) => Refusal::WrongFormat { good: 0 },
         }
     }
 }

@@ -5,8 +5,8 @@ ghost use Rattle.wire.specs.Refusals.{row};
 pub enum Refusal {
     // 1: the field at hand has fewer bytes than it needs, both counted from the start of the field.
     TooShort { needed: usize, available: usize },
-    // 2: the name is not UTF-8; or the name, the block length or the routine record is too long.
-    WrongFormat,
+    // 2: the name is not UTF-8, and its longest beginning that is has so many bytes; or the name, the block length or the routine record is too long, with 0.
+    WrongFormat { good: usize },
     // 3: no kind has this mode byte.
     UnknownMode(u8),
     // 4: no routine sub-function has this byte.
@@ -33,7 +33,7 @@ impl Refusal {
                 needed: _,
                 available: _,
             } => 1,
-            Refusal::WrongFormat => 2,
+            Refusal::WrongFormat { good: _ } => 2,
             Refusal::UnknownMode(_) => 3,
             Refusal::UnknownSubFunction(_) => 4,
             Refusal::NoTroubleCode(_) => 5,
@@ -53,7 +53,7 @@ impl Refusal {
                 needed,
                 available: _,
             } => needed,
-            Refusal::WrongFormat => 0,
+            Refusal::WrongFormat { good } => good,
             Refusal::UnknownMode(b) => b as usize,
             Refusal::UnknownSubFunction(b) => b as usize,
             Refusal::NoTroubleCode(n) => n as usize,
@@ -74,7 +74,7 @@ impl Refusal {
                 available,
             } => available,
             Refusal::NoRoom { needed: _, room } => room,
-            Refusal::WrongFormat => 0,
+            Refusal::WrongFormat { good: _ } => 0,
             Refusal::UnknownMode(_) => 0,
             Refusal::UnknownSubFunction(_) => 0,
             Refusal::NoTroubleCode(_) => 0,

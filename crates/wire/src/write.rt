@@ -107,7 +107,7 @@ pub fn put_counted(prefix: Prefix, src: &[u8], out: &mut [u8]) -> WriteAnswer
     ensures { λ r. ⌜ Wrote (countedRun (prefixLen prefix) (prefixMost prefix) (now (src .entry))) (now (out .entry)) r (now (out .exit)) ⌝ }
 {
     if prefix.most() < src.len() {
-        return WriteAnswer::Refused(Refusal::WrongFormat);
+        return WriteAnswer::Refused(Refusal::WrongFormat { good: 0 });
     }
     let at = prefix.len();
     let needed = at + src.len();

@@ -1,10 +1,12 @@
 -- `request_file_transfer::name::name_at` meets its contract: the count's refusal is the name's, and what is judged are the bytes at the place that was found.
 -- Assumes nothing.
 use mathlib.Core.Path.{_≡_, sym, ap, subst, _∙_}
+use Prim.Native.Nat.{ℕ}
 use borrow.Author.Needs.{needs}
-use Rattle.paper.specs.Answer.{wrongFormat}
-use Rattle.paper.specs.Utf8.{isUtf8}
+use Rattle.paper.specs.Answer.{refused, wrongFormat}
+use Rattle.paper.specs.Utf8.{validUpTo, isUtf8}
 use Rattle.paper.specs.Field.{counted, name}
+use Rattle.paper.proofs.Utf8.{longest-is}
 use Rattle.paper.proofs.Places.{on, off, pass, fail}
 use Rattle.wire.specs.Place.{seenPlace, bytesAt, CountedRight}
 use Rattle.wire.specs.declared.place.PlaceAnswer.{PlaceAnswer}
@@ -28,13 +30,15 @@ returns-2 : tie.Need-returns-2
 unfolding name
 returns-2 c =
     let p = place (c .before .before .before .before) in
-    record { paper = on (counted 2) _ _ (p .paper) (pass wrongFormat _ _ (judged (c .before) ∙ c .if1 .taken)); place = p .place }
+    record { paper = on (counted 2) _ _ (p .paper) (pass _ _ _ (judged (c .before) ∙ c .if1 .taken)); place = p .place }
 
 returns-3 : tie.Need-returns-3
 unfolding name
 returns-3 c =
-    let p = place (c .before .before .before .before) in
-    record { paper = on (counted 2) _ _ (p .paper) (fail wrongFormat _ _ (judged (c .before) ∙ c .if1 .left)); place = tt }
+    let p = place (c .before .before .before .before .before) in
+    let same = c .before .before .before .part-at .ensures .1 in
+    let told = ap (λ (k : ℕ). refused (wrongFormat k)) (longest-is _ _ (c .valid-up-to .ensures) ∙ ap validUpTo same) in
+    record { paper = on (counted 2) _ _ (p .paper) (told ∙ fail _ _ _ (judged (c .before .before) ∙ c .before .if1 .left)); place = tt }
 
 pub name-at-spec : {M : Type 1} → statement M
 name-at-spec =
@@ -48,4 +52,5 @@ name-at-spec =
     (λ c κs. search needs)
     (λ c κs. search needs)
     returns-2
+    (λ c κs. search needs)
     returns-3)
