@@ -1,4 +1,4 @@
-/* One fault at a time in front of the library, to see that the comparison finds it: SKROLVIND_FAULT is its number, 1 to 38; with 0 there is none.
+/* One fault at a time in front of the library, to see that the comparison finds it: SKROLVIND_FAULT is its number, 1 to 44; with 0 there is none.
  * Each function calls the library's own, which `try` has given the prefix real_, and spoils the answer. `try` counts the lines that have FAULT ==. */
 #include <stdlib.h>
 #include <string.h>
@@ -10,6 +10,13 @@ __attribute__((constructor)) static void choose(void)
 {
     const char *number = getenv("SKROLVIND_FAULT");
     if (number) FAULT = atol(number);
+}
+
+/* How many characters stand in the first bytes of a name. */
+static uint64_t characters(const uint8_t *name, uint64_t bytes) {
+    uint64_t count = 0;
+    for (uint64_t i = 0; i < bytes; i++) count += (name[i] & 0xC0) != 0x80;
+    return count;
 }
 
 #define DOOR(type, name, parameters, ...) \
@@ -29,6 +36,8 @@ DOOR(skr_file_transfer, skr_read_request, (const uint8_t *m, size_t n),
      if (FAULT == 4 && r.number == 1 && r.first == 35) r.first += 1;    /* needed is off by one, at width 17 */
      if (FAULT == 22 && r.number == 2 && real_skr_valid_up_to(m + 3, n - 3) > 300) memset(&r, 0, sizeof r); /* a fault far inside a name is passed over */
      if (FAULT == 30 && r.tail > 0 && r.tail < n) LENT(m)[r.tail] = 0;  /* a zero is put behind the message in the caller's buffer */
+     if (FAULT == 39 && r.number == 2) r.first += 3;                    /* where the name goes bad is counted from the message's start */
+     if (FAULT == 40 && r.number == 2) r.first = characters(m + 3, r.first); /* the good characters are counted, not their bytes */
      return r;)
 
 DOOR(skr_file_transfer, skr_read_response, (const uint8_t *m, size_t n),
@@ -58,6 +67,8 @@ DOOR(skr_written, skr_write_request,
      if (FAULT == 25 && an > 65535 && rn > 65571) memcpy(r + 3, a, 65535); /* an over-long name is refused when it is written already */
      if (FAULT == 28 && w.number == 0) r[-1] = 0;                       /* a byte is written before the room */
      if (FAULT == 34 && !a) w.number = 2;                               /* an empty name must have a pointer */
+     if (FAULT == 41 && w.number == 2) w.first = 0;                     /* the writer does not say where the name goes bad */
+     if (FAULT == 42 && w.number == 2 && an > 65535) w.first = 65535;   /* an over-long name carries the limit */
      return w;)
 
 DOOR(skr_written, skr_write_response,
@@ -85,6 +96,7 @@ DOOR(skr_written, skr_rewrite_request, (const uint8_t *m, size_t n, uint8_t *r, 
      skr_written w = real_skr_rewrite_request(m, n, r, rn);
      if (FAULT == 16 && w.number == 7) w.first = n;                     /* needed is the length of the message that was read */
      if (FAULT == 32 && w.number == 0 && w.written < n) memcpy(LENT(m), r, w.written); /* the message is rewritten in its own place as well */
+     if (FAULT == 43 && w.number == 2 && m[3 + w.first] == 0xE2) w.first += 1; /* where a character is cut, its second byte is told */
      return w;)
 
 DOOR(skr_written, skr_rewrite_response, (const uint8_t *m, size_t n, uint8_t *r, size_t rn),
@@ -98,6 +110,7 @@ DOOR(skr_desk, skr_desk_check, (const uint8_t *m, size_t n),
      skr_desk d = real_skr_desk_check(m, n);
      skr_file_transfer r = real_skr_read_request(m, n);
      if (FAULT == 18 && d.number == 9 && r.compressed_low > r.uncompressed_low) { d.number = 8; d.first = 0; } /* 8 before 9 */
+     if (FAULT == 44 && d.number == 2) d.first = 0;                     /* the desk does not pass up where the name goes bad */
      return d;)
 
 DOOR(uint64_t, skr_valid_up_to, (const uint8_t *m, size_t n),

@@ -74,7 +74,7 @@ impl Bench {
         record: &dyn Debug,
     ) {
         self.tally.count(call, rule);
-        if let (Some(recorder), None) = (&mut self.recorder, rule) {
+        if let (Some(recorder), true) = (&mut self.recorder, Rule::is_recorded(rule)) {
             recorder.offer(call, sort, &[], input, || numbers(record));
         }
     }
@@ -185,7 +185,7 @@ impl Bench {
         if room > LONGEST_ROOM {
             return;
         }
-        if let (Some(recorder), None) = (&mut self.recorder, rule) {
+        if let (Some(recorder), true) = (&mut self.recorder, Rule::is_recorded(rule)) {
             let room_length = (room as u16).to_be_bytes();
             let arguments = [&room_length[..], &(writer.arguments)()].concat();
             let written = &self.plenty[..wanted.unwrap_or(0)];

@@ -243,6 +243,34 @@ pub fn bounds(bench: &mut Bench) {
     }
 }
 
+/// Names that go bad at every place, around lengths at which the check goes another way: after plain letters, and after letters of two
+/// bytes, comes a piece that is not UTF-8, or a letter that is. They are read, judged at the desk, rewritten and written.
+pub fn bad_names(bench: &mut Bench) {
+    for len in (0..=20).chain(60..=70).chain(124..=134).chain([200]) {
+        for at in 0..=len {
+            for piece in PIECES {
+                for letter in ["a", "é"] {
+                    bad_name(bench, len, at, letter, piece);
+                }
+            }
+        }
+    }
+}
+
+fn bad_name(bench: &mut Bench, len: usize, at: usize, letter: &str, piece: &[u8]) {
+    let mut name = letter.repeat(at / letter.len()).into_bytes();
+    name.extend(piece);
+    name.resize(name.len().max(len), b'z');
+    bench.message(&request(2, &name, 0));
+    bench.written_transfer(Transfer {
+        kind: 2,
+        part: &name,
+        format: 0,
+        sizes: [0, 0],
+        position: 0,
+    });
+}
+
 fn request_front(kind: u8, name: &[u8], width: u8) -> Vec<u8> {
     let mut message = vec![kind];
     message.extend((name.len() as u16).to_be_bytes());

@@ -2,11 +2,11 @@
 //! program `oracle_answers` to hold ours against them.
 use crate::bench::Bench;
 use crate::grid::{SIZES, request};
-use crate::model;
 use crate::record::Answer;
 use crate::report::agree;
 use crate::rng::Rng;
 use crate::tally::Item;
+use crate::{model, names};
 use oracle::items;
 use oracle::plain::{Payload, PayloadSort, Refusal};
 
@@ -318,6 +318,8 @@ fn payload_read(bench: &mut Bench, sort: usize, at: usize, buffer: &[u8]) {
         ]
     };
     let original = items::payload_read(SORTS[sort], &buffer[at..]);
+    // only a name is refused with 2
+    let original = names::told(original, names::of_payload(&buffer[at..]));
     let paper = model::payload(SORTS[sort], &buffer[at..]);
     let [original, paper] =
         [original, paper].map(|answer| Answer::default().read(answer.map(numbers)));

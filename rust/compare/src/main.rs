@@ -7,6 +7,7 @@ mod expected;
 mod grid;
 mod items;
 mod model;
+mod names;
 mod null;
 mod random;
 mod read;
@@ -47,6 +48,7 @@ fn main() {
     step(b, "lengths of up to 300 bytes", grid::lengths);
     step(b, "names of up to 300 bytes", grid::long_names);
     step(b, "names with one fault far inside", grid::far_faults);
+    step(b, "names that go bad", grid::bad_names);
     step(b, "numbers and names at bounds", grid::bounds);
     step(b, "null pointers", null::pointers);
     step(b, "what is made of a byte, or of two", items::of_bytes);

@@ -1,5 +1,6 @@
-//! Document 01's rules on reading and on the desk check, written down once more and as plainly as they stand there. The original is
+//! Document 01's rules on reading and on the desk check, with what document 02 changes, written down once more and as plainly as they stand there. The original is
 //! held against them too, so that a difference shows on which side it lies.
+use crate::names;
 use oracle::plain::{FileTransfer, NextCode, Payload, PayloadSort, Refusal, Routine};
 use std::ops::RangeInclusive;
 
@@ -50,8 +51,9 @@ impl Rest<'_> {
     /// The place of a name, with its length in two bytes; it must be UTF-8.
     fn name(&mut self) -> Answer<(usize, usize)> {
         let (start, len) = self.counted(2)?;
-        if std::str::from_utf8(&self.bytes[start..start + len]).is_err() {
-            return Err(Refusal::new(2, 0, 0));
+        let name = &self.bytes[start..start + len];
+        if std::str::from_utf8(name).is_err() {
+            return Err(names::refused(name));
         }
         Ok((start, len))
     }

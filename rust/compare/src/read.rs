@@ -3,7 +3,7 @@ use crate::bench::Bench;
 use crate::record::sort;
 use crate::report::agree;
 use crate::tally::{Call, Rule};
-use crate::{expected, model};
+use crate::{expected, model, names};
 use oracle::plain::{FileTransfer, Refusal};
 use skrolvind::flat;
 
@@ -23,7 +23,7 @@ impl Bench {
 
     fn request(&mut self, message: &[u8]) -> Result<FileTransfer, Refusal> {
         let paper = model::read_request(message);
-        let original = oracle::read_request(message);
+        let original = names::told(oracle::read_request(message), names::of_request(message));
         let record = expected::transfer(message, &original);
         agree(
             "the original reads a request otherwise than document 01",
@@ -43,7 +43,7 @@ impl Bench {
             &expected::bound_request(message),
             &paper,
         );
-        let (rule, sort) = (by_width(&original), sort(&original, |t| t.kind));
+        let (rule, sort) = (Rule::of_read(&original), sort(&original, |t| t.kind));
         self.equal(Call::ReadRequest, rule, sort, message, &record);
         paper
     }
@@ -70,7 +70,7 @@ impl Bench {
             &expected::bound_response(message),
             &paper,
         );
-        let (rule, sort) = (by_width(&original), sort(&original, |t| t.kind));
+        let (rule, sort) = (Rule::of_read(&original), sort(&original, |t| t.kind));
         self.equal(Call::ReadResponse, rule, sort, message, &record);
     }
 
@@ -151,10 +151,7 @@ impl Bench {
     }
 
     fn valid_up_to(&mut self, name: &[u8]) {
-        let good = match std::str::from_utf8(name) {
-            Ok(_) => name.len(),
-            Err(e) => e.valid_up_to(),
-        };
+        let good = names::valid_up_to(name);
         agree(
             "a name is UTF-8 up to another place",
             name,
@@ -226,9 +223,4 @@ impl Bench {
         let sort = sort(&original, |_| 0);
         self.equal(Call::NextTroubleCode, None, sort, buffer, &record);
     }
-}
-
-/// Refusal 6 is document 01's own.
-fn by_width(answer: &Result<FileTransfer, Refusal>) -> Option<Rule> {
-    matches!(answer, Err(r) if r.number == 6).then_some(Rule::Width)
 }

@@ -1,4 +1,5 @@
 //! What was compared, and how often.
+use oracle::plain::Refusal;
 
 /// The calls that a door leads to, in the order of the table.
 #[derive(Clone, Copy)]
@@ -106,20 +107,39 @@ pub enum Rule {
     LongRecord,
     NoSuchValue,
     NotText,
+    NameLength,
     NullPointer,
     Desk,
 }
 
-const RULES: [&str; 8] = [
+const RULES: [&str; 9] = [
     "size width 0 or 17 up: refusal 6 with the width",
     "routine request refused with 4: the byte is the low seven bits",
     "too little room: refusal 7, and nothing is written",
     "routine record over 65,535 bytes: refusal 2",
     "kind or sub-function that does not exist: refused at once",
-    "name to be written that is not UTF-8: refusal 2",
+    "name written that is not UTF-8: refusal 2 with its good length",
+    "name read that is not UTF-8: refusal 2 carries its good length",
     "null pointer with the length 0: an empty slice like any other",
     "desk check: document 01's own",
 ];
+
+impl Rule {
+    /// The rule of what is answered to a file transfer message: a width's refusal is document 01's own, and what a name's carries
+    /// document 02's.
+    pub fn of_read<T>(answer: &Result<T, Refusal>) -> Option<Self> {
+        match answer.as_ref().err()?.number {
+            2 => Some(Self::NameLength),
+            6 => Some(Self::Width),
+            _ => None,
+        }
+    }
+
+    /// Whether an answer by this rule goes into the recorded list: the length of a name stands there beside the original's number.
+    pub fn is_recorded(rule: Option<Self>) -> bool {
+        matches!(rule, None | Some(Self::NameLength))
+    }
+}
 
 /// The counts.
 #[derive(Default)]
@@ -133,11 +153,11 @@ pub struct Tally {
 
 impl Tally {
     /// One more answer that was equal to the original's, or, where a rule is given, to what that rule says. Of a sub-function's byte
-    /// the rule says no more than the byte: the refusal's number is as the original's.
+    /// and of a name's length the rule says no more than these: the refusal's number is as the original's.
     pub fn count(&mut self, call: Call, rule: Option<Rule>) {
         let column = match rule {
             None => &mut self.original,
-            Some(Rule::SubFunctionByte) => &mut self.number,
+            Some(Rule::SubFunctionByte | Rule::NameLength) => &mut self.number,
             Some(_) => &mut self.paper,
         };
         column[call as usize] += 1;

@@ -1,5 +1,6 @@
 //! The writers, each in rooms of several lengths.
 use crate::bench::{Bench, Writer};
+use crate::names;
 use crate::report::hex;
 use crate::tally::{Call, Rule};
 use oracle::plain::Refusal;
@@ -138,7 +139,7 @@ impl Bench {
         }
         // the original's type for a name is text, so that it cannot be asked about any other bytes
         let Ok(name) = std::str::from_utf8(t.part) else {
-            let refusal = Refusal::new(2, 0, 0);
+            let refusal = names::refused(t.part);
             return self.in_rooms(&writer, Err(refusal), Some(Rule::NotText));
         };
         let room = &mut self.plenty;
@@ -260,8 +261,9 @@ impl Bench {
             flat: |room: &mut [u8]| flat::rewrite_request(message, room),
             bound: |room: &mut [u8]| Some(skrolvind::rewrite_request(message, room)),
         };
-        let wanted = oracle::rewrite_request(message, &mut self.plenty);
-        self.in_rooms(&writer, wanted, by_width(wanted));
+        let answer = oracle::rewrite_request(message, &mut self.plenty);
+        let wanted = names::told(answer, names::of_request(message));
+        self.in_rooms(&writer, wanted, Rule::of_read(&wanted));
     }
 
     pub fn rewritten_response(&mut self, message: &[u8]) {
@@ -275,11 +277,6 @@ impl Bench {
             bound: |room: &mut [u8]| Some(skrolvind::rewrite_response(message, room)),
         };
         let wanted = oracle::rewrite_response(message, &mut self.plenty);
-        self.in_rooms(&writer, wanted, by_width(wanted));
+        self.in_rooms(&writer, wanted, Rule::of_read(&wanted));
     }
-}
-
-/// Refusal 6 is document 01's own.
-fn by_width(answer: Result<usize, Refusal>) -> Option<Rule> {
-    matches!(answer, Err(r) if r.number == 6).then_some(Rule::Width)
 }

@@ -189,6 +189,38 @@ fn names() {
 }
 
 #[test]
+fn where_a_name_goes_bad() {
+    let mut long = vec![b'a'; 200];
+    long[150] = 0xFC;
+    let names: [(&[u8], u64); 4] = [
+        (&long, 150),
+        (&[0xFF, b'a'], 0),
+        (&[b'a', 0xE2, 0x82], 1),
+        (&[0xC3, 0xBC, b'b', 0x80], 3),
+    ];
+    for (name, good) in names {
+        let mut message: Vec<u8> = vec![2, 0, u8::try_from(name.len()).unwrap()];
+        message.extend(name);
+        refused_request(&message, 2, good, 0);
+        assert_eq!(desk_check(&message), Err(refusal(2, good, 0)));
+        let rewritten = rewrite_request(&message, &mut [0; 300]);
+        assert_eq!(rewritten, Err(refusal(2, good, 0)));
+        let written = write_request(&request(Kind::DeleteFile, name), &mut [0; 300]);
+        assert_eq!(written, Err(refusal(2, good, 0)));
+    }
+}
+
+#[test]
+fn a_name_that_is_too_long() {
+    for byte in [b'a', 0xFF] {
+        let name = vec![byte; 65_536];
+        let mut room = vec![0; 65_539];
+        let written = write_request(&request(Kind::DeleteFile, &name), &mut room);
+        assert_eq!(written, Err(refusal(2, 0, 0)));
+    }
+}
+
+#[test]
 fn trouble_codes() {
     let all = TroubleCode {
         high: 255,

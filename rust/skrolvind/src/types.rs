@@ -6,7 +6,7 @@ use core::fmt;
 pub struct Refusal {
     /// From 1 to 9.
     pub number: u64,
-    /// The first value, or 0.
+    /// The first value, or 0. Of refusal 2 for a name that is not UTF-8: the length of its longest beginning that is.
     pub first: u64,
     /// The second value, or 0.
     pub second: u64,
