@@ -6,7 +6,7 @@ use Prim.Native.Nat.{ℕ, _-_, _≤_, _<_}
 use mathlib.Core.List.{List, [], _∷_}
 use native.Mathlib.Omega.{arith}
 use lib.ListN.{length, drop, length-drop}
-use Rattle.paper.specs.Answer.{Refusal, Answer, accepted, refused, compressedAbove, leftOver, check, _leaving_}
+use Rattle.paper.specs.Answer.{Refusal, Answer, accepted, refused, unequalSizes, leftOver, check, _leaving_}
 use Rattle.paper.specs.Request.{Request, afterName, readRequest}
 use Rattle.paper.specs.Desk.{passes, judgeAtDesk, deskCheck}
 
@@ -22,7 +22,7 @@ some-left m (b ∷ t) e h = ap (λ (n : ℕ). refused (leftOver n)) (sym e)
 
 -- the rule's answer
 abbrev pub ruled : Bool → Answer (Unit {0})
-ruled ok = check ok compressedAbove (accepted tt)
+ruled ok = check ok unequalSizes (accepted tt)
 
 -- none is
 none-left : (m : Request) (t : List ℕ) → length t ≤ 0 → ruled (passes (afterName (m .kind)) m) ≡ judgeAtDesk (accepted (m leaving t))

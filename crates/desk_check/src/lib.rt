@@ -1,4 +1,4 @@
-// The desk check: is this one request good to be loaded? Document 01 adds it; the original has none.
+// The desk check: is this one request good to be loaded? Document 01 adds it, and document 02 gives its rule; the original has none.
 use request_file_transfer::layout::AfterName;
 use request_file_transfer::layout::after_name;
 use request_file_transfer::read::RequestAnswer;
@@ -9,7 +9,7 @@ use wire::size::Order;
 use wire::size::Size;
 use wire::size::compare;
 ghost use mathlib.Core.Path.{_≡_};
-ghost use lib.Dec.{leb};
+ghost use lib.Dec.{eqb};
 ghost use Rattle.paper.specs.Desk.{deskCheck};
 ghost use Rattle.wire.specs.Size.{value};
 ghost use Rattle.desk_check.specs.Desk.{PassesRight, deskSaid};
@@ -19,26 +19,30 @@ pub enum DeskAnswer {
     Refused(Refusal),
 }
 
-// Whether the first size is at most the second, by their exact values.
-fn at_most(a: Size, b: Size) -> bool
-    ensures { λ r. ⌜ r ≡ leb (value a) (value b) ⌝ }
+// Whether two sizes are equal, by their exact values.
+fn equal(a: Size, b: Size) -> bool
+    ensures { λ r. ⌜ r ≡ eqb (value a) (value b) ⌝ }
 {
     match compare(a, b) {
-        Order::Less => true,
+        Order::Less => false,
         Order::Equal => true,
         Order::Greater => false,
     }
 }
 
-// The rule: a request with sizes passes when its compressed size is at most its uncompressed; one without passes.
+// The rule: the sizes of what is neither packed nor encrypted, format byte 0x00, must be equal; any others pass, and so does a request without sizes.
 fn passes(q: RequestFileTransferRequest) -> bool
     ensures { λ r. ⌜ PassesRight q r ⌝ }
 {
     let kind = q.kind;
+    let format = q.data_format_identifier;
     let size = q.size;
     match after_name(kind) {
         AfterName::FormatAndSizes => {
-            at_most(size.file_size_compressed, size.file_size_uncompressed)
+            if format.value() != 0x00 {
+                return true;
+            }
+            equal(size.file_size_compressed, size.file_size_uncompressed)
         }
         AfterName::Nothing => true,
         AfterName::FormatOnly => true,
@@ -60,6 +64,6 @@ pub fn desk_check(request: &[u8]) -> DeskAnswer
     if passes(q) {
         DeskAnswer::Passed
     } else {
-        DeskAnswer::Refused(Refusal::CompressedAbove)
+        DeskAnswer::Refused(Refusal::UnequalSizes)
     }
 }

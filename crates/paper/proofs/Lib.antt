@@ -17,3 +17,4 @@ pub mod Demand3
 pub mod Vectors
 pub mod Codes
 pub mod Lines
+pub mod Desk

@@ -1,4 +1,4 @@
--- Worked examples of what the bench's P table leaves out, by computing the definitions: refusals, sizes, limits of a width, codes, writing, the desk check.
+-- Worked examples of what the bench's P table leaves out, by computing the definitions: refusals, sizes, limits of a width, codes, writing.
 -- Assumes nothing.
 use mathlib.Core.Path.{_≡_, refl}
 use Prim.Native.Nat.{ℕ, _-_, _^_}
@@ -6,7 +6,7 @@ use mathlib.Core.Bool.{true, false}
 use mathlib.Core.List.{List, [], _∷_, _++_, map}
 use lib.ListN.{replicate}
 use Rattle.paper.specs.Answer.{Refusal, refusal, tooShort, wrongFormat, unknownMode, unknownSubFunction, noTroubleCode, badWidth, noRoom}
-use Rattle.paper.specs.Answer.{compressedAbove, leftOver, accepted, refused, _leaving_, _>>=_, give, refuse, over, written}
+use Rattle.paper.specs.Answer.{unequalSizes, leftOver, accepted, refused, _leaving_, _>>=_, give, refuse, over, written}
 use Rattle.paper.specs.Bytes.{ofBytes, toBytes}
 use Rattle.paper.specs.Utf8.{inRange, begins, firstRow, charLength, validFrom, validUpTo, isUtf8}
 use Rattle.paper.specs.Sizes.{fit, firstFit, width, less, equal, greater, compare}
@@ -20,7 +20,7 @@ use Rattle.paper.specs.RoutineControl.{wholeRest, readRoutineRequest, re
 use Rattle.paper.specs.Desk.{deskCheck}
 
 -- the table of refusals: the number of each, and what it carries
-refusals : map {B = ℕ × ℕ × ℕ} (λ (r : Refusal). (r .number, r .first, r .second)) (tooShort 4 3 ∷ wrongFormat 150 ∷ unknownMode 7 ∷ unknownSubFunction 9 ∷ noTroubleCode 0x01000000 ∷ badWidth 17 ∷ noRoom 4 3 ∷ compressedAbove ∷ leftOver 5 ∷ [])
+refusals : map {B = ℕ × ℕ × ℕ} (λ (r : Refusal). (r .number, r .first, r .second)) (tooShort 4 3 ∷ wrongFormat 150 ∷ unknownMode 7 ∷ unknownSubFunction 9 ∷ noTroubleCode 0x01000000 ∷ badWidth 17 ∷ noRoom 4 3 ∷ unequalSizes ∷ leftOver 5 ∷ [])
     ≡ (1, 4, 3) ∷ (2, 150, 0) ∷ (3, 7, 0) ∷ (4, 9, 0) ∷ (5, 0x01000000, 0) ∷ (6, 17, 0) ∷ (7, 4, 3) ∷ (8, 0, 0) ∷ (9, 5, 0) ∷ []
 refusals = refl
 
@@ -123,13 +123,3 @@ into : (let s : List ℕ = 0x01 ∷ 0x00 ∷ 0x00 ∷ 0x11 ∷ 0x02 ∷ 0x00 ∷
     × (rewrittenInto (rewriteRequest (0x01 ∷ [])) (replicate 6 9) ≡ record { answer = refused (refusal 1 2 0); contents = replicate 6 9 }))
 unfolding _>>=_ give refuse over ofBytes toBytes inRange begins firstRow charLength validFrom validUpTo isUtf8 fit firstFit width oneOf known part byte headed counted name numbers sizeGroup withCount laid sizesAt rewriting readRequest requestAt requestBytes goodName writeRequest rewriteRequest
 into = (refl, refl, refl)
-
--- the desk check: the reader's refusals, then bytes left over, then the sizes of kinds 1, 3 and 6; equal and smaller compressed sizes pass, and so do the other kinds
-abbrev sized : ℕ → ℕ → ℕ → List ℕ → List ℕ
-sized mode x y t = mode ∷ 0x00 ∷ 0x01 ∷ 0x61 ∷ 0x11 ∷ 0x01 ∷ x ∷ y ∷ t
-
-desk : (map deskCheck ([] ∷ sized 0x01 1 2 (0x5A ∷ []) ∷ []) ≡ refused (refusal 1 1 0) ∷ refused (refusal 9 1 0) ∷ [])
-    × (map deskCheck (sized 0x01 1 2 [] ∷ sized 0x03 1 2 [] ∷ sized 0x06 1 2 [] ∷ []) ≡ replicate 3 (refused (refusal 8 0 0)))
-    × (map deskCheck (sized 0x01 2 2 [] ∷ sized 0x01 2 1 [] ∷ (0x02 ∷ 0x00 ∷ 0x00 ∷ []) ∷ (0x04 ∷ 0x00 ∷ 0x00 ∷ 0x11 ∷ []) ∷ (0x05 ∷ 0x00 ∷ 0x00 ∷ []) ∷ []) ≡ replicate 5 (accepted tt))
-unfolding deskCheck _>>=_ give refuse ofBytes inRange begins firstRow charLength validFrom validUpTo isUtf8 oneOf known part byte headed counted name numbers sizeGroup readRequest
-desk = (refl, refl, refl)

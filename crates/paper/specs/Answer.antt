@@ -44,9 +44,9 @@ badWidth w = refusal 6 w 0
 abbrev pub noRoom : ℕ → ℕ → Refusal
 noRoom needed room = refusal 7 needed room
 
--- desk check: the compressed size is above the uncompressed
-abbrev pub compressedAbove : Refusal
-compressedAbove = refusal 8 0 0
+-- desk check: the sizes are unequal under format 0x00
+abbrev pub unequalSizes : Refusal
+unequalSizes = refusal 8 0 0
 
 -- desk check: bytes are left over
 abbrev pub leftOver : ℕ → Refusal

@@ -6,7 +6,7 @@ use lib.ListN.{getD}
 use Rattle.paper.specs.Answer as paper
 use Rattle.wire.specs.Refusals.{row}
 use Rattle.wire.specs.declared.refusal.Refusal.{Refusal}
-use Rattle.wire.specs.declared.refusal.Refusal.the-variants.{TooShort, WrongFormat, UnknownMode, UnknownSubFunction, NoTroubleCode, BadWidth, NoRoom, CompressedAbove, LeftOver}
+use Rattle.wire.specs.declared.refusal.Refusal.the-variants.{TooShort, WrongFormat, UnknownMode, UnknownSubFunction, NoTroubleCode, BadWidth, NoRoom, UnequalSizes, LeftOver}
 
 -- the refusal that a row of the table stands for: the place in the list is the number
 abbrev pub refusalBack : paper.Refusal → Refusal
@@ -14,7 +14,7 @@ refusalBack e =
     let a = e .first in
     let b = e .second in
     getD
-    (WrongFormat 0 ∷ TooShort a b ∷ WrongFormat a ∷ UnknownMode a ∷ UnknownSubFunction a ∷ NoTroubleCode a ∷ BadWidth a ∷ NoRoom a b ∷ CompressedAbove ∷ LeftOver a ∷ [])
+    (WrongFormat 0 ∷ TooShort a b ∷ WrongFormat a ∷ UnknownMode a ∷ UnknownSubFunction a ∷ NoTroubleCode a ∷ BadWidth a ∷ NoRoom a b ∷ UnequalSizes ∷ LeftOver a ∷ [])
     (e .number)
     (WrongFormat 0)
 
@@ -26,7 +26,7 @@ refusal-back (UnknownSubFunction a) = refl
 refusal-back (NoTroubleCode a) = refl
 refusal-back (BadWidth a) = refl
 refusal-back (NoRoom a b) = refl
-refusal-back CompressedAbove = refl
+refusal-back UnequalSizes = refl
 refusal-back (LeftOver a) = refl
 
 pub refusal-once : {e f : Refusal} → row e ≡ row f → e ≡ f

@@ -1,8 +1,8 @@
 -- The number of each refusal in document 01's table, and what it carries.
 use Rattle.paper.specs.Answer as paper
-use Rattle.paper.specs.Answer.{tooShort, wrongFormat, unknownMode, unknownSubFunction, noTroubleCode, badWidth, noRoom, compressedAbove, leftOver}
+use Rattle.paper.specs.Answer.{tooShort, wrongFormat, unknownMode, unknownSubFunction, noTroubleCode, badWidth, noRoom, unequalSizes, leftOver}
 use Rattle.wire.specs.declared.refusal.Refusal.{Refusal}
-use Rattle.wire.specs.declared.refusal.Refusal.the-variants.{TooShort, WrongFormat, UnknownMode, UnknownSubFunction, NoTroubleCode, BadWidth, NoRoom, CompressedAbove, LeftOver}
+use Rattle.wire.specs.declared.refusal.Refusal.the-variants.{TooShort, WrongFormat, UnknownMode, UnknownSubFunction, NoTroubleCode, BadWidth, NoRoom, UnequalSizes, LeftOver}
 
 abbrev pub row : Refusal → paper.Refusal
 row (TooShort needed available) = tooShort needed available
@@ -12,5 +12,5 @@ row (UnknownSubFunction b) = unknownSubFunction b
 row (NoTroubleCode n) = noTroubleCode n
 row (BadWidth w) = badWidth w
 row (NoRoom needed room) = noRoom needed room
-row CompressedAbove = compressedAbove
+row UnequalSizes = unequalSizes
 row (LeftOver n) = leftOver n

@@ -17,8 +17,8 @@ pub enum Refusal {
     BadWidth(usize),
     // 7: the room is smaller than the message.
     NoRoom { needed: usize, room: usize },
-    // 8: the desk check found a compressed size above the uncompressed.
-    CompressedAbove,
+    // 8: the desk check found unequal sizes under format 0x00.
+    UnequalSizes,
     // 9: the desk check found so many bytes left over.
     LeftOver(usize),
 }
@@ -39,7 +39,7 @@ impl Refusal {
             Refusal::NoTroubleCode(_) => 5,
             Refusal::BadWidth(_) => 6,
             Refusal::NoRoom { needed: _, room: _ } => 7,
-            Refusal::CompressedAbove => 8,
+            Refusal::UnequalSizes => 8,
             Refusal::LeftOver(_) => 9,
         }
     }
@@ -59,7 +59,7 @@ impl Refusal {
             Refusal::NoTroubleCode(n) => n as usize,
             Refusal::BadWidth(w) => w,
             Refusal::NoRoom { needed, room: _ } => needed,
-            Refusal::CompressedAbove => 0,
+            Refusal::UnequalSizes => 0,
             Refusal::LeftOver(n) => n,
         }
     }
@@ -79,7 +79,7 @@ impl Refusal {
             Refusal::UnknownSubFunction(_) => 0,
             Refusal::NoTroubleCode(_) => 0,
             Refusal::BadWidth(_) => 0,
-            Refusal::CompressedAbove => 0,
+            Refusal::UnequalSizes => 0,
             Refusal::LeftOver(_) => 0,
         }
     }
