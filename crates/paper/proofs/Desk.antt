@@ -1,8 +1,10 @@
--- Document 02, Req 03: what the desk answers to some requests, by computing the definitions.
+-- Document 02, Req 03: what the desk answers to some requests, and what its program prints, letter by letter, by computing the definitions.
 -- Assumes nothing.
 use mathlib.Core.Path.{_≡_, refl}
 use Prim.Native.Nat.{ℕ, _-_, _^_}
+use Prim.Native.String.{String}
 use mathlib.Core.List.{List, [], _∷_, _++_, map}
+use lib.ListN.{replicate}
 use Rattle.paper.specs.Answer.{refusal, Answer, accepted, refused, _>>=_, give, refuse}
 use Rattle.paper.specs.Bytes.{ofBytes, toBytes}
 use Rattle.paper.specs.Utf8.{inRange, begins, firstRow, charLength, validFrom, validUpTo, isUtf8}
@@ -10,6 +12,8 @@ use Rattle.paper.specs.Kind.{oneOf, known}
 use Rattle.paper.specs.Field.{part, byte, headed, counted, name, numbers, sizeGroup}
 use Rattle.paper.specs.Request.{readRequest}
 use Rattle.paper.specs.Desk.{deskCheck}
+use Rattle.paper.specs.ReadingProgram.{decimalIn, decimal, ascii, textOf}
+use Rattle.paper.specs.DeskProgram.{deskLine}
 
 -- a request of this mode with the name `a`, a format byte and sizes in 16 bytes each; t follows it
 abbrev sized : (mode format uncompressed compressed : ℕ) → List ℕ → List ℕ
@@ -52,3 +56,23 @@ rows =
 pub rows-right : map (λ (r : List ℕ × Answer (Unit {0})). deskCheck (r .0)) rows ≡ map (λ (r : List ℕ × Answer (Unit {0})). r .1) rows
 unfolding deskCheck _>>=_ give refuse ofBytes toBytes inRange begins firstRow charLength validFrom validUpTo isUtf8 oneOf known part byte headed counted name numbers sizeGroup readRequest
 rows-right = refl
+
+-- a row: the input, and the line
+abbrev pub lines : List (List ℕ × String)
+lines =
+    -- a packed file may have grown; one that is not packed may not, nor have anything after it
+    (0x01 ∷ 0x00 ∷ 0x01 ∷ 0x61 ∷ 0x11 ∷ 0x02 ∷ 0x00 ∷ 0xFF ∷ 0x01 ∷ 0x00 ∷ [], "passes\n")
+    ∷ (0x01 ∷ 0x00 ∷ 0x01 ∷ 0x61 ∷ 0x00 ∷ 0x02 ∷ 0x00 ∷ 0xFF ∷ 0x01 ∷ 0x00 ∷ [], "refused 8 0 0\n")
+    ∷ (0x01 ∷ 0x00 ∷ 0x01 ∷ 0x61 ∷ 0x00 ∷ 0x02 ∷ 0x00 ∷ 0xFF ∷ 0x01 ∷ 0x00 ∷ 0x5A ∷ [], "refused 9 1 0\n")
+    -- cut
+    ∷ (0x01 ∷ 0x00 ∷ 0x01 ∷ 0x61 ∷ 0x00 ∷ 0x02 ∷ 0x00 ∷ 0xFF ∷ 0x01 ∷ [], "refused 1 5 4\n")
+    -- no byte, 131,072 bytes and one more
+    ∷ ([], "refused 1 1 0\n")
+    ∷ (replicate 131072 0, "refused 3 0 0\n")
+    ∷ (replicate 131073 0, "too long\n")
+    ∷ []
+
+-- of each input the line of its row is printed
+pub lines-right : map (λ (r : List ℕ × String). deskLine (r .0)) lines ≡ map (λ (r : List ℕ × String). ascii (r .1)) lines
+unfolding deskCheck _>>=_ give refuse ofBytes inRange begins firstRow charLength validFrom validUpTo isUtf8 oneOf known part byte headed counted name numbers sizeGroup readRequest decimalIn decimal textOf deskLine
+lines-right = refl

@@ -14,3 +14,4 @@ pub mod TroubleCode
 pub mod Desk
 pub mod BadName
 pub mod ReadingProgram
+pub mod DeskProgram

@@ -1,13 +1,23 @@
-// Prints, for each file that its arguments name, the file's name and the line that the reading program prints of its contents.
+// Prints, for each file that its arguments name, the file's name with the line that the reading program prints of its contents, and again with the desk's.
+use desk_line::desk_text;
 use libc::STDOUT_FILENO;
 use request_line::text::line_text;
 
-fn print_line(fd: i32) {
-    let mut input = io::large_buffer();
+fn print_line(name: &[u8], words: &[u8], text: &[u8]) {
+    io::write_all(STDOUT_FILENO, name);
+    io::write_all(STDOUT_FILENO, words);
+    io::write_all(STDOUT_FILENO, text);
+}
+
+fn print_lines(name: &[u8], fd: i32) {
+    let mut input = desk_line::room();
     let n = io::read_full(fd, &mut input);
     let mut text = io::buffer();
     let k = line_text(&input[..n], &mut text);
-    io::write_all(STDOUT_FILENO, &text[..k]);
+    print_line(name, b": ", &text[..k]);
+    let mut desk = io::buffer();
+    let j = desk_text(&input[..n], &mut desk);
+    print_line(name, b" at the desk: ", &desk[..j]);
 }
 
 fn print_case(i: usize) {
@@ -18,9 +28,7 @@ fn print_case(i: usize) {
         os::fail(&path[..n]);
         return;
     }
-    io::write_all(STDOUT_FILENO, &path[..n]);
-    io::write_all(STDOUT_FILENO, b": ");
-    print_line(fd);
+    print_lines(&path[..n], fd);
     libc::close(fd);
 }
 

@@ -34,11 +34,11 @@ pub put-short : (w : List ℕ) {old new : List ℕ} {n r m : ℕ} → n < 2 ^ 64
 put-short w {n = n} fits (e, l, h) = (e, omega (arith, length-append w (decimal n), short n fits), h)
 
 -- where there is room, they stand over the front of the buffer, and their number counts them there
-pub put-over : {bytes old new : List ℕ} {n m : ℕ} → Put bytes n m old new → m ≤ length old → (n ≡ length bytes) × (new ≡ over bytes old) × Counts n new
+pub put-over : {bytes old new : List ℕ} {n m : ℕ} → Put bytes n m old new → m ≤ length old → (n ≡ length bytes) × ((new ≡ over bytes old) × Counts n new)
 put-over {bytes} {old} {new} {n} (e, l, h) room =
     let is = h .given-room (omega arith) in
     let long : n ≤ length new = omega (arith, ap length is, over-length bytes old (omega arith)) in
-    (e, is, (long, sym (length-take-le n new long)))
+    (e, (is, (long, sym (length-take-le n new long))))
 
 -- seven parts, regrouped
 seven : (a b c d e f g : List ℕ) → (((a ++ b) ++ (c ++ d)) ++ (e ++ f)) ++ g ≡ a ++ (b ++ (c ++ (d ++ (e ++ (f ++ g)))))

@@ -1,5 +1,5 @@
 // The text of the line: words and decimal numbers in ASCII, ended by a line feed. Each function writes from the start of `out` and answers
-// how many bytes it wrote. `line_text` lends more room than any line needs, so that no writer of a field refuses: what they answer is not looked at.
+// how many bytes it wrote. `put_text` lends more room than any line needs, so that no writer of a field refuses: what they answer is not looked at.
 use crate::line::Line;
 use crate::line::Shown;
 use crate::line::line_of;
@@ -91,9 +91,11 @@ fn put_refused(refusal: Refusal, out: &mut [u8]) -> usize
     c + 1
 }
 
-fn put_text(line: Line, out: &mut [u8]) -> usize
-    requires { ⌜ 160 ≤ length (now out) ⌝ }
-    ensures { λ r. ⌜ Put (textOf (lineSaid line)) r 160 (now (out .entry)) (now (out .exit)) ⌝ }
+// The text of a line, from the start of `out`, which has room enough for any line. How many bytes it has.
+pub fn put_text(line: Line, out: &mut [u8; 4096]) -> usize
+    ensures { λ r. ⌜ r ≡ length (textOf (lineSaid line)) ⌝ }
+    ensures { λ r. ⌜ now (out .exit) ≡ over (textOf (lineSaid line)) (now (out .entry)) ⌝ }
+    ensures { λ r. ⌜ Counts r (now (out .exit)) ⌝ }
 {
     match line {
         Line::TooLong => {
