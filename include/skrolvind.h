@@ -97,7 +97,7 @@ skr_written skr_rewrite_request(const uint8_t *message, size_t message_len, uint
 /* Reads a file transfer response and writes it anew. */
 skr_written skr_rewrite_response(const uint8_t *message, size_t message_len, uint8_t *room, size_t room_len);
 
-/* Judges one request at the desk: the reader's refusals, then 9 for bytes left over, then 8. */
+/* Judges one request at the desk: the reader's refusals, then 9 for bytes left over, then 8 for unequal sizes under format 0x00. */
 skr_desk skr_desk_check(const uint8_t *message, size_t message_len);
 
 /* The length of the longest beginning of the name that is UTF-8. */

@@ -3,6 +3,7 @@
 //! Each answer is looked at three times: the library's record, the binding's result, and a plain model of document 01, all beside
 //! the original's answer. Where document 01 lists an exception, its own rule takes the original's place, and that is counted apart.
 mod bench;
+mod desk;
 mod expected;
 mod grid;
 mod items;
@@ -56,6 +57,7 @@ fn main() {
     step(b, "payloads", items::payloads);
     step(b, "names of 4 and 5 chosen bytes", sweep::names);
     step(b, "trouble-code numbers", sweep::numbers);
+    step(b, "requests for the desk", desk::requests);
     if !arguments.quick {
         step(b, "all messages of up to 3 bytes", sweep::short_messages);
         step(b, "messages of 4 to 7 chosen bytes", sweep::chosen_messages);

@@ -157,13 +157,15 @@ pub fn read_routine_response(message: &[u8]) -> Answer<Routine> {
     read_routine(message, 0xFF)
 }
 
-/// What the desk says of a request that was read, or was not.
+/// What the desk says of a request that was read, or was not. The format byte 0x00 means neither packed nor encrypted: then the sizes
+/// must be equal.
 pub fn desk_check(read: &Answer<FileTransfer>) -> Answer<()> {
     let read = (*read)?;
     if read.tail_len > 0 {
         return Err(Refusal::new(9, read.tail_len as u64, 0));
     }
-    if matches!(read.kind, 1 | 3 | 6) && read.compressed > read.uncompressed {
+    let sized = matches!(read.kind, 1 | 3 | 6);
+    if sized && read.format == 0x00 && read.compressed != read.uncompressed {
         return Err(Refusal::new(8, 0, 0));
     }
     Ok(())

@@ -128,6 +128,11 @@ impl Bench {
         self.equal(Call::ReadRoutineResponse, None, sort, message, &record);
     }
 
+    /// The desk alone.
+    pub fn judged(&mut self, message: &[u8]) {
+        self.desk(message, &model::read_request(message));
+    }
+
     fn desk(&mut self, message: &[u8], request: &Result<FileTransfer, Refusal>) {
         let paper = model::desk_check(request);
         agree(

@@ -121,7 +121,7 @@ const RULES: [&str; 9] = [
     "name written that is not UTF-8: refusal 2 with its good length",
     "name read that is not UTF-8: refusal 2 carries its good length",
     "null pointer with the length 0: an empty slice like any other",
-    "desk check: document 01's own",
+    "desk check: ours, as document 02 has it",
 ];
 
 impl Rule {

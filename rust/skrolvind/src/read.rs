@@ -120,7 +120,7 @@ pub fn read_routine_response(message: &[u8]) -> Result<RoutineResponse<'_>, Refu
 /// Judges one request at the desk.
 ///
 /// # Errors
-/// The refusals of [`read_request`], then 9 for bytes left over, then 8 for a compressed size above the uncompressed.
+/// The refusals of [`read_request`], then 9 for bytes left over, then 8 for unequal sizes under format 0x00.
 #[inline]
 pub fn desk_check(message: &[u8]) -> Result<(), Refusal> {
     let r = flat::desk_check(message);

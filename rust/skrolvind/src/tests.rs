@@ -165,6 +165,8 @@ fn written_widths() {
         let count = write_request(&written, &mut room).unwrap();
         assert_eq!((count, usize::from(room[5])), (6 + 2 * width, width));
         assert_eq!(read_request(&room[..count]), Ok((written, &[][..])));
+        assert_eq!(desk_check(&room[..count]), Err(refusal(8, 0, 0)));
+        room[4] = 0x11;
         assert_eq!(desk_check(&room[..count]), Ok(()));
     }
 }
@@ -237,9 +239,14 @@ fn trouble_codes() {
 
 #[test]
 fn the_desk() {
-    let message = [1, 0, 1, 0x61, 0x11, 2, 0, 255, 1, 0, 0x5A];
+    let mut message = [1, 0, 1, 0x61, 0x00, 2, 0, 255, 1, 0, 0x5A];
     assert_eq!(desk_check(&message), Err(refusal(9, 1, 0)));
     assert_eq!(desk_check(&message[..10]), Err(refusal(8, 0, 0)));
     assert_eq!(desk_check(&message[..9]), Err(refusal(1, 5, 4)));
+    for format in [0x01, 0x0F, 0x10, 0xF0, 0xFF] {
+        message[4] = format;
+        assert_eq!(desk_check(&message[..10]), Ok(()));
+    }
+    assert_eq!(desk_check(&[3, 0, 0, 0x00, 1, 9, 9]), Ok(()));
     assert_eq!(desk_check(&[2, 0, 1, 0x61]), Ok(()));
 }
