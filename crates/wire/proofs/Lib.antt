@@ -1,5 +1,6 @@
 pub mod Refusals
 pub mod Sizes
+pub mod LeadingZeros
 pub mod Halves
 pub mod Prefixes
 pub mod Parts

@@ -3,9 +3,8 @@
 use mathlib.Core.Path.{_≡_, refl, sym, ap, ap₂, subst, _∙_}
 use mathlib.Core.Bool.{Bool, true, false}
 use mathlib.Core.List.{[], _∷_}
-use Prim.Native.Nat.{ℕ, max, _+_, _*_, _-_, _/_, _%_, _^_, _≤_, _<_}
-use native.Mathlib.Nat.{le-antisymm, mul-comm, mod-lt, div-add-mod', mul-le-mul-right, lt-of-mul-lt-mul-right, lt-of-not-le, pow-le-pow-right}
-use native.Mathlib.Decide.{decLe}
+use Prim.Native.Nat.{ℕ, max, _+_, _*_, _-_, _^_, _≤_, _<_}
+use native.Mathlib.Nat.{le-antisymm, mul-comm, mul-le-mul-right, lt-of-mul-lt-mul-right, lt-of-not-le, pow-le-pow-right}
 use native.Mathlib.Omega.{arith}
 use borrow.Author.Tests.{lt-ltb, le-ltb, eq-eqb, ne-eqb, ltb-true, ltb-false, eqb-true, eqb-false}
 use lib.Arith.{digits-lt}
@@ -77,16 +76,6 @@ smallest-of h l = record {
   least = λ v g. l .least v (g .positive) (g .fit .0);
 }
 
-pub least-of : {n w : ℕ} → Smallest (n ∷ []) w → Least n w
-least-of {n} {w} s = record { positive = s .holds .positive; fits = s .holds .fit .0; least = least }
-  where
-    least : (v : ℕ) → 1 ≤ v → n < 256 ^ v → w ≤ v
-    least v p h = elim (decLe v 16) [ yes l ↦ s .least v (record { positive = p; within = l; fit = (h, tt) }) | no g ↦ omega (arith, s .holds .within, g) ]
-
--- a number below 256 takes one byte
-pub one-byte : (n : ℕ) → n < 256 → Least n 1
-one-byte n h = record { positive = omega arith; fits = h; least = λ v p l. p }
-
 -- k bytes more behind a number above 0 take a width of k more
 pub grow : (k q r : ℕ) {w : ℕ} → 0 < q → r < 256 ^ k → Least q w → Least (q * 256 ^ k + r) (k + w)
 grow k q r {w} pos below s = record {
@@ -102,10 +91,6 @@ grow k q r {w} pos below s = record {
         let split : k + (v - k) ≡ v = omega arith in
         let parts : 256 ^ v ≡ 256 ^ k * 256 ^ (v - k) = rw (← pow-add 256 k (v - k), split) refl in
         omega (arith, s .least (v - k) (omega arith) (lt-of-mul-lt-mul-right (256 ^ k) (omega arith)))
-
--- one byte more
-pub grow-one : (n : ℕ) {w : ℕ} → 256 ≤ n → Least (n / 256) w → Least n (1 + w)
-grow-one n {w} h s = subst (λ (x : ℕ). Least x (1 + w)) (div-add-mod' n 256) (grow 1 (n / 256) (n % 256) (omega arith) (mod-lt n (lit< tt)) s)
 
 -- the width of the larger is the width of both
 pub of-larger : (a b : ℕ) {w : ℕ} → Smallest (max a b ∷ []) w → Smallest (a ∷ b ∷ []) w

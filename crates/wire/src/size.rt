@@ -45,27 +45,19 @@ fn larger(a: Size, b: Size) -> Size
     }
 }
 
-// The smallest width that holds a half. 0 takes one byte.
-fn width_of_half(n: u64) -> usize
-    ensures { λ r. ⌜ Smallest (n ∷ []) r ⌝ }
-{
-    let mut rest = n;
-    let mut k: usize = 0;
-    while 256 <= rest {
-        rest = rest / 256;
-        k += 1;
-    }
-    k + 1
-}
-
-// The smallest width from 1 to 16 that holds a size. 0 takes one byte.
+// The smallest width from 1 to 16 that holds a size: a byte for every 8 bits, less one for every 8 zero bits that lead.
+// They are counted in the top half, or in the low half where the top one is zero. `| 1` gives 0 its one byte, and leaves every other width as it is.
+//     2^64 - 1    low half: no zero bit leads           8 -  0 / 8 = 8
+//     2^64        top half: it is 1, and 63 lead       16 - 63 / 8 = 9
+//     0           low half: 0 | 1 is 1, and 63 lead     8 - 63 / 8 = 1
 pub fn width_of(x: Size) -> usize
     ensures { λ r. ⌜ Smallest (value x ∷ []) r ⌝ }
 {
     if x.high == 0 {
-        return width_of_half(x.low);
+        8 - u64::leading_zeros(x.low | 1) as usize / 8
+    } else {
+        16 - u64::leading_zeros(x.high) as usize / 8
     }
-    8 + width_of_half(x.high)
 }
 
 // The smallest width from 1 to 16 that holds both sizes. Two zeros take one byte.
