@@ -15,9 +15,10 @@ import re
 class Change(collections.namedtuple("Change", "crate file text start end new sort")):
     """The text from `start` to `end` of a file becomes `new`."""
 
-    def apply(self, folder):
+    def changed(self):
+        """The whole file with the change."""
         old, text = self.text[self.start : self.end], self.text[: self.start] + self.new + self.text[self.end :]
-        (folder / self.file).write_text(imported_beside(text, old, self.new), encoding="utf-8")
+        return imported_beside(text, old, self.new)
 
     def texts(self):
         """The whole lines that the change touches, before and after, each joined to one."""
@@ -137,14 +138,19 @@ def closing(text, at):
             return at
 
 
-def code_regions(text):
-    """Where the bodies of functions, and the values of constants, begin and end."""
+def function_bodies(text):
+    """Where the body of each function begins and ends."""
     for head in re.finditer(r"^[^/\n]*\bfn\s+\w+", text, re.M):
         at = re.compile(r"\b(?:requires|ensures)\b|\{").search(text, head.end()).start()
         while clause := CLAUSE.match(text, at):
             at = closing(text, clause.end() - 1)
         body = text.index("{", at)
         yield body, closing(text, body)
+
+
+def code_regions(text):
+    """Where the bodies of functions, and the values of constants, begin and end."""
+    yield from function_bodies(text)
     for head in re.finditer(r"^[^/\n]*\bconst\s+\w+\s*:[^=;]*=", text, re.M):
         yield head.end(), text.index(";\n", head.end())
 
