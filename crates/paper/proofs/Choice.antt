@@ -1,8 +1,10 @@
--- What a test that passed, or an answer that was accepted, says. Assumes nothing.
+-- What a test that passed, or an answer that was accepted, says; and that a number is below another or not. Assumes nothing.
 use mathlib.Core.Path.{_≡_, refl}
-use Prim.Native.Nat.{ℕ}
+use Prim.Native.Nat.{ℕ, _-_, _≤_, _<_}
 use mathlib.Core.Bool.{Bool, true, false}
+use mathlib.Core.Logic.{_⊎_, inl, inr, ⊎-elim}
 use native.Mathlib.Omega.{arith}
+use native.Mathlib.Nat.{eq-zero-or-pos}
 use Rattle.paper.specs.Choice.{both}
 use Rattle.paper.specs.Answer.{Refusal, Answer, accepted, refused, check, _then_}
 
@@ -23,3 +25,7 @@ check-passed false r a e = absurd (never e)
 pub then-passed : {A B : Type 0} (a : Answer A) (b : Answer B) {y : B} → (a then b) ≡ accepted y → (x : A) × (a ≡ accepted x) × (b ≡ accepted y)
 then-passed (accepted x) b e = (x, refl, e)
 then-passed (refused r) b e = absurd (never e)
+
+-- a is below n or not
+pub cut : (a n : ℕ) → (a < n) ⊎ (n ≤ a)
+cut a n = ⊎-elim (λ z. inr (omega arith)) (λ p. inl (omega arith)) (eq-zero-or-pos (n - a))

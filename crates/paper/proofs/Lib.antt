@@ -9,6 +9,7 @@ pub mod Places
 pub mod Width
 pub mod Request
 pub mod BadName
+pub mod LeadBytes
 pub mod Response
 pub mod RoutineControl
 pub mod TroubleCode

@@ -24,11 +24,11 @@ split : (P : ℕ → Type 0) (b : Bool) {x y : ℕ} → (b ≡ true → P x) →
 split P true f g = f refl
 split P false f g = g refl
 
-in-true : {r : ℕ × ℕ} {b : ℕ} → In (r .0) (r .1) b → inRange r b ≡ true
+pub in-true : {r : ℕ × ℕ} {b : ℕ} → In (r .0) (r .1) b → inRange r b ≡ true
 unfolding inRange
 in-true h = simp (le-leb _ _ (h .0), le-leb _ _ (h .1))
 
-true-in : (r : ℕ × ℕ) (b : ℕ) → inRange r b ≡ true → In (r .0) (r .1) b
+pub true-in : (r : ℕ × ℕ) (b : ℕ) → inRange r b ≡ true → In (r .0) (r .1) b
 unfolding inRange
 true-in r b e = let t = both-true _ _ e in (leb-true _ _ (t .0), leb-true _ _ (t .1))
 

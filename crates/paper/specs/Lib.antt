@@ -13,5 +13,6 @@ pub mod RoutineControl
 pub mod TroubleCode
 pub mod Desk
 pub mod BadName
+pub mod LeadBytes
 pub mod ReadingProgram
 pub mod DeskProgram

@@ -9,10 +9,10 @@ use lib.Bits.{bitOr, or-add-and, and-le-l, and-le-r, or-lt}
 use lib.ListN.{length, getD, take, drop, length-drop}
 use lib.Seq.{length-take-le}
 use Rattle.paper.specs.Utf8.{Utf8, none, more, utf8-1}
+use Rattle.paper.proofs.Choice.{cut}
 use Rattle.utf8.specs.Valid.{Valid}
-use Rattle.utf8.specs.Ascii.{AsciiTo, Ascii, AsciiStart, AsciiRun}
+use Rattle.utf8.specs.Ascii.{AsciiTo, Ascii, AsciiStart, AsciiRun, AsciiEnd}
 use Rattle.utf8.proofs.Valid.{part-at}
-use Rattle.utf8.proofs.Tests.{cut}
 
 -- one byte more: the bits of two bytes together are below 0x80 where both are
 pub bits-turn : (s : List ℕ) (i bits : ℕ) → (bits < 0x80) ↔ AsciiTo s i → (bitOr bits (getD s i 0) < 0x80) ↔ AsciiTo s (i + 1)
@@ -23,18 +23,26 @@ bits-turn s i bits h =
       (λ k. or-lt 7 bits b (h .1 (λ j l. k j (omega arith))) (k i (omega arith))),
     )
 
+-- a part of s that is ASCII, from place a up to e: so are these bytes of s
+in-part : (s : List ℕ) (a e : ℕ) → e ≤ length s → Ascii (take (e - a) (drop a s)) → (i : ℕ) → a ≤ i → i < e → getD s i 0 < 0x80
+in-part s a e l b i j k =
+    let p : length (take (e - a) (drop a s)) ≡ e - a = length-take-le (e - a) (drop a s) (omega (arith, length-drop a s)) in
+    rw (← part-at s a (e - a) i j (omega arith)) (b (i - a) (omega arith))
+
 -- one block more, which the code lends as this part of s
 pub more-ascii : {s : List ℕ} {at : ℕ} (n : ℕ) → AsciiStart s at → n ≤ length s - at → Ascii (take (at + n - at) (drop at s)) → AsciiStart s (at + n)
 more-ascii {s} {at} n h l b = record {
   within = omega (arith, h .within);
-  ascii = λ i j. ⊎-elim (h .ascii i) (far i j) (cut i at);
+  ascii = λ i j. ⊎-elim (h .ascii i) (λ k. in-part s at (at + n) (omega (arith, h .within)) b i k j) (cut i at);
 }
-  where
-    far : (i : ℕ) → i < at + n → at ≤ i → getD s i 0 < 0x80
-    far i j k =
-        let e : at + n - at ≡ n = omega arith in
-        let p : length (take n (drop at s)) ≡ n = length-take-le n (drop at s) (omega (arith, length-drop at s)) in
-        rw (← part-at s at n i k (omega arith)) (rw e at b (i - at) (omega arith))
+
+-- the last block, which the code lends as this part of s
+pub ascii-end : (s : List ℕ) (n : ℕ) → n ≤ length s → Ascii (take (length s - (length s - n)) (drop (length s - n) s)) → AsciiEnd s n
+ascii-end s n l b = record { within = l; ascii = λ i j k. in-part s (length s - n) (length s) (omega arith) b i k j }
+
+-- what is passed, and a last block that reaches back to it, are all of s
+pub all-passed : {s : List ℕ} {at n : ℕ} → AsciiStart s at → length s - at ≤ n → AsciiEnd s n → AsciiStart s (length s)
+all-passed {s} {at} h l e = record { within = omega arith; ascii = λ i j. ⊎-elim (h .ascii i) (λ k. e .ascii i j (omega (arith, h .within))) (cut i at) }
 
 -- a run ends at a byte that is not ASCII, or at the end of the text
 pub run-stops : {s : List ℕ} {at : ℕ} → AsciiStart s at → 0x80 ≤ getD s at 0 → AsciiRun s at

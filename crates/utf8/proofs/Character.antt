@@ -11,8 +11,8 @@ use lib.Seq.{drop-cons}
 use Rattle.paper.specs.Choice.{pick, both}
 use Rattle.paper.specs.Utf8.{In, tail, inRange, begins, charLength}
 use Rattle.paper.proofs.Utf8.{lead-E1, lead-EE}
+use Rattle.paper.proofs.Choice.{cut}
 use Rattle.utf8.specs.Character.{Lead, sized}
-use Rattle.utf8.proofs.Tests.{cut}
 
 both-no : (p : Bool) → both p false ≡ false
 both-no true = refl
@@ -35,7 +35,7 @@ each [] s k = true
 each (r ∷ rs) s k = both (inRange r (getD s k 0)) (each rs s (k + 1))
 
 -- a text that is long enough begins with them where each byte is in its range
-full : (rs : List (ℕ × ℕ)) (s : List ℕ) (k : ℕ) → k + length rs ≤ length s → begins rs (drop k s) ≡ each rs s k
+pub full : (rs : List (ℕ × ℕ)) (s : List ℕ) (k : ℕ) → k + length rs ≤ length s → begins rs (drop k s) ≡ each rs s k
 unfolding begins
 full [] s k h = refl
 full (r ∷ rs) s k h =

@@ -13,11 +13,12 @@ use lib.Dec.{ltb, leb, eqb}
 use lib.ListN.{length, getD, take, drop, length-append, length-drop}
 use lib.Seq.{append-snoc, take-at, take-take, length-take-le}
 use Rattle.paper.specs.Utf8.{In, Tail, Utf8Char, utf8-1, utf8-2, utf8-3-E0, utf8-3-E1, utf8-3-ED, utf8-3-EE, utf8-4-F0, utf8-4-F1, utf8-4-F4, Utf8, none, more}
+use Rattle.paper.proofs.Choice.{cut}
 use Rattle.utf8.specs.Valid.{Valid}
 use Rattle.utf8.specs.Ascii.{AsciiTo, AsciiStart}
 use Rattle.utf8.specs.Fit.{Fits, FitTo, AllFit, Fitting, FitStart, unfinishedOf}
 use Rattle.utf8.proofs.Valid.{part-at}
-use Rattle.utf8.proofs.Tests.{cut, and-other, not-both, same}
+use Rattle.utf8.proofs.Tests.{and-other, not-both, same}
 
 -- ---- one byte: the tests of `fits_after`, and what they say
 abbrev pub goesOn : ℕ → ℕ → ℕ → Bool

@@ -3,5 +3,7 @@ pub mod Valid
 pub mod Ascii
 pub mod Character
 pub mod Fit
+pub mod LeadBytes
 pub mod Longest
 pub mod Unique
+pub mod Same

@@ -1,14 +1,6 @@
 -- Tests and their two outcomes. Assumes nothing.
-use Prim.Native.Nat.{ℕ, _-_, _≤_, _<_}
 use mathlib.Core.Path.{_≡_, refl}
 use mathlib.Core.Bool.{Bool, true, false, _&&_, Bool·beq, false≢true}
-use mathlib.Core.Logic.{_⊎_, inl, inr, ⊎-elim}
-use native.Mathlib.Omega.{arith}
-use native.Mathlib.Nat.{eq-zero-or-pos}
-
--- a is below n or not
-pub cut : (a n : ℕ) → (a < n) ⊎ (n ≤ a)
-cut a n = ⊎-elim (λ z. inr (omega arith)) (λ p. inl (omega arith)) (eq-zero-or-pos (n - a))
 
 -- two tests do not both pass: where the first does, the second does not
 pub and-other : (p q : Bool) → (p && q) ≡ false → p ≡ true → q ≡ false

@@ -1,5 +1,5 @@
 -- Text in ASCII.
-use Prim.Native.Nat.{ℕ, _≤_, _<_}
+use Prim.Native.Nat.{ℕ, _-_, _≤_, _<_}
 use mathlib.Core.List.{List}
 use lib.ListN.{length, getD}
 
@@ -19,3 +19,8 @@ pub record AsciiStart (s : List ℕ) (n : ℕ) : Type 0 where
 pub record AsciiRun (s : List ℕ) (n : ℕ) : Type 0 where
   pub start : AsciiStart s n
   pub ends : n < length s → 0x80 ≤ getD s n 0
+
+-- the last n bytes of s are ASCII
+pub record AsciiEnd (s : List ℕ) (n : ℕ) : Type 0 where
+  pub within : n ≤ length s
+  pub ascii : (i : ℕ) → i < length s → length s - n ≤ i → getD s i 0 < 0x80

@@ -16,7 +16,7 @@ ghost use mathlib.Core.Logic.{_↔_};
 ghost use Prim.Native.Nat.{_≤_, _<_};
 ghost use lib.ListN.{length};
 ghost use Rattle.utf8.specs.Valid.{Valid};
-ghost use Rattle.utf8.specs.Ascii.{Ascii, AsciiStart};
+ghost use Rattle.utf8.specs.Ascii.{Ascii, AsciiStart, AsciiEnd};
 ghost use Rattle.utf8.specs.Fit.{Fits, AllFit, Fitting, FitStart, unfinishedOf};
 
 // How many bytes a block has: enough that the compiler can judge many at once, few enough that a name has some.
@@ -35,8 +35,19 @@ fn all_ascii(s: &[u8]) -> bool
     bits < 0x80
 }
 
-// How many bytes the blocks of ASCII take with which s begins, each of `size` bytes. 0 where the first block is not ASCII, or s is
-// shorter than a block.
+// Whether the last `size` bytes of s are there and are all ASCII.
+fn ends_in_ascii(s: &[u8], size: usize) -> bool
+    ensures { λ r. ⌜ (r ≡ true → AsciiEnd (now (s .entry)) size) ⌝ }
+{
+    if s.len() < size {
+        return false;
+    }
+    let start = s.len() - size;
+    all_ascii(&s[start..])
+}
+
+// How many bytes of ASCII s begins with, by blocks of `size` bytes; where less than a block is left, by one more that ends where s does.
+// 0 where the first block is not ASCII, or s is shorter than a block.
 pub(crate) fn ascii_blocks(s: &[u8], size: usize) -> usize
     requires { ⌜ 0 < size ⌝ }
     ensures { λ r. ⌜ AsciiStart (now (s .entry)) r ⌝ }
@@ -48,6 +59,9 @@ pub(crate) fn ascii_blocks(s: &[u8], size: usize) -> usize
             return at;
         }
         at = end;
+    }
+    if ends_in_ascii(s, size) {
+        return s.len();
     }
     at
 }
@@ -79,12 +93,14 @@ fn all_fit(s: &[u8]) -> bool
     fit
 }
 
-// The same as `all_fit`, sooner where all of s is ASCII.
-fn block_fits(s: &[u8]) -> bool
+// The same as `all_fit`, sooner where all of s is ASCII. `first`, a byte of s, spares most text that is not ASCII the test for it.
+fn block_fits(s: &[u8], first: u8) -> bool
     ensures { λ r. ⌜ (r ≡ true) ↔ AllFit (now (s .entry)) ⌝ }
 {
-    if all_ascii(s) {
-        return true;
+    if first < 0x80 {
+        if all_ascii(s) {
+            return true;
+        }
     }
     all_fit(s)
 }
@@ -99,7 +115,7 @@ fn fitting_blocks(s: &[u8], from: usize) -> usize
     while BLOCK <= s.len() - at {
         let start = at - 3;
         let end = at + BLOCK;
-        if !block_fits(&s[start..end]) {
+        if !block_fits(&s[start..end], s[start]) {
             return at;
         }
         at = end;

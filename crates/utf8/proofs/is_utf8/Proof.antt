@@ -8,7 +8,7 @@ returns : tie.Need-returns
 returns c = whole-is (c .before .before .before .args .name .now) (c .by-characters .result) (c .by-characters .ensures)
 
 returns-2 : tie.Need-returns-2
-returns-2 c = whole-is (c .before .before .before .args .name .now) (c .valid-up-to .result) (c .valid-up-to .ensures)
+returns-2 c = whole-is (c .before .before .before .args .name .now) (c .long-beginning .result) (c .long-beginning .ensures)
 
 pub is-utf8-spec : {M : Type 1} → statement M
 is-utf8-spec = tie.close (tie.spec (λ c κs. search needs) returns (λ c κs. search needs) returns-2)

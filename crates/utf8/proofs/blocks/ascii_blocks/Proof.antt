@@ -1,4 +1,4 @@
--- `ascii_blocks` meets its contract: what is passed is ASCII, and each block adds to it. Assumes nothing.
+-- `ascii_blocks` meets its contract: what is passed is ASCII, and each block adds to it, the last up to the end. Assumes nothing.
 use Prim.Native.Nat.{_-_}
 use native.Mathlib.Omega.{arith}
 use borrow.Author.Count.{below-none}
@@ -6,7 +6,7 @@ use borrow.Author.Needs.{needs}
 use borrow.Author.Tests.{not-false}
 use lib.ListN.{length}
 use Rattle.utf8.specs.Ascii.{AsciiStart}
-use Rattle.utf8.proofs.Ascii.{more-ascii}
+use Rattle.utf8.proofs.Ascii.{more-ascii, all-passed}
 use Rattle.utf8.proofs.blocks.ascii_blocks.Statement.{statement}
 use Rattle.utf8.proofs.blocks.ascii_blocks.Tie as tie
 
@@ -48,8 +48,14 @@ loop-again c =
     more-ascii (c .before .before .before .before .before .before .args .size) (c .before .before .before .before .loop .inv) (omega arith)
     (c .before .all-ascii .ensures .0 (not-false (c .before .all-ascii .result) (c .if1 .left)))
 
+ends-in-ascii-requires : tie.Need-ends-in-ascii-requires Inv-loop μ-loop
+ends-in-ascii-requires c κs = search needs
+
 returns-2 : tie.Need-returns-2 Inv-loop μ-loop
-returns-2 c = c .before .loop .inv
+returns-2 c = all-passed (c .before .before .before .loop .inv) (omega arith) (c .before .ends-in-ascii .ensures (c .if2 .taken))
+
+returns-3 : tie.Need-returns-3 Inv-loop μ-loop
+returns-3 c = c .before .before .before .loop .inv
 
 pub ascii-blocks-spec : {M : Type 1} → statement M
 ascii-blocks-spec =
@@ -67,4 +73,6 @@ ascii-blocks-spec =
     returns
     loop-less
     loop-again
-    returns-2)
+    ends-in-ascii-requires
+    returns-2
+    returns-3)

@@ -9,7 +9,7 @@ all-ascii-requires : tie.Need-all-ascii-requires
 all-ascii-requires c κs = search needs
 
 returns : tie.Need-returns
-returns c = ((λ e. ascii-fit (c .before .before .before .args .s .now) _ (c .before .all-ascii .ensures .0 (c .if1 .taken))), λ _. refl)
+returns c = ((λ e. ascii-fit (c .before .before .before .before .args .s .now) _ (c .before .all-ascii .ensures .0 (c .if2 .taken))), λ _. refl)
 
 all-fit-requires : tie.Need-all-fit-requires
 all-fit-requires c κs = search needs

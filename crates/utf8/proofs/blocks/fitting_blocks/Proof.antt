@@ -36,18 +36,21 @@ part-block-fits-start c = search needs
 part-block-fits-end : tie.Need-part-block-fits-end Inv-loop μ-loop
 part-block-fits-end c = search needs
 
+shared-slice-read-block-fits : tie.Need-shared-slice-read-block-fits Inv-loop μ-loop
+shared-slice-read-block-fits c = search needs
+
 block-fits-requires : tie.Need-block-fits-requires Inv-loop μ-loop
 block-fits-requires c κs = search needs
 
 returns : tie.Need-returns Inv-loop μ-loop
-returns c = c .before .before .before .before .loop .inv
+returns c = c .before .before .before .before .before .loop .inv
 
 loop-less : tie.Need-loop-less Inv-loop μ-loop
 loop-less c = search needs
 
 loop-again : tie.Need-loop-again Inv-loop μ-loop
 loop-again c =
-    more-fits _ (c .before .before .before .before .loop .inv) (omega arith) (c .before .block-fits .ensures .0 (not-false (c .before .block-fits .result) (c .if1 .left)))
+    more-fits _ (c .before .before .before .before .before .loop .inv) (omega arith) (c .before .block-fits .ensures .0 (not-false (c .before .block-fits .result) (c .if1 .left)))
 
 returns-2 : tie.Need-returns-2 Inv-loop μ-loop
 returns-2 c = c .before .loop .inv
@@ -65,6 +68,7 @@ fitting-blocks-spec =
     sub-block-fits
     part-block-fits-start
     part-block-fits-end
+    shared-slice-read-block-fits
     block-fits-requires
     returns
     loop-less

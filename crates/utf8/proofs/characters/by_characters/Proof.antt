@@ -10,10 +10,10 @@ use Rattle.utf8.proofs.characters.by_characters.Statement.{statement}
 use Rattle.utf8.proofs.characters.by_characters.Tie as tie
 
 abbrev Inv-loop : tie.InvT-loop
-Inv-loop s at₀ at = Valid s at
+Inv-loop s by at₀ at = Valid s at
 
 abbrev μ-loop : tie.MeasureT-loop
-μ-loop s at₀ at = length s - at
+μ-loop s by at₀ at = length s - at
 
 loop-holds : tie.Need-loop-holds Inv-loop μ-loop
 loop-holds c = empty _

@@ -1,7 +1,6 @@
--- `step` meets its contract: nothing is left, or ASCII is valid, or a character is. Assumes nothing.
-use native.Mathlib.Omega.{arith}
+-- `step` meets its contract: nothing is left, or the lead byte decides, either way. Assumes nothing.
 use borrow.Author.Needs.{needs}
-use Rattle.utf8.proofs.Longest.{nothing-left, run-step, character-step}
+use Rattle.utf8.proofs.Longest.{nothing-left}
 use Rattle.utf8.proofs.characters.step.Statement.{statement}
 use Rattle.utf8.proofs.characters.step.Tie as tie
 
@@ -11,17 +10,17 @@ returns c = nothing-left _ (c .if1 .taken)
 shared-slice-read-lead : tie.Need-shared-slice-read-lead
 shared-slice-read-lead c = search needs
 
-ascii-run-requires : tie.Need-ascii-run-requires
-ascii-run-requires c κs = search needs
+step-by-table-requires : tie.Need-step-by-table-requires
+step-by-table-requires c κs = search needs
 
 returns-2 : tie.Need-returns-2
-returns-2 c = run-step (omega arith) (c .before .if2 .taken) (c .ascii-run .ensures)
+returns-2 c = c .step-by-table .ensures
 
-long-character-requires : tie.Need-long-character-requires
-long-character-requires c κs = search needs
+step-by-ranges-requires : tie.Need-step-by-ranges-requires
+step-by-ranges-requires c κs = search needs
 
 returns-3 : tie.Need-returns-3
-returns-3 c = character-step (c .long-character .ensures)
+returns-3 c = c .step-by-ranges .ensures
 
 pub step-spec : {M : Type 1} → statement M
 step-spec =
@@ -29,7 +28,7 @@ step-spec =
     (tie.spec
     returns
     shared-slice-read-lead
-    ascii-run-requires
+    step-by-table-requires
     returns-2
-    long-character-requires
+    step-by-ranges-requires
     returns-3)

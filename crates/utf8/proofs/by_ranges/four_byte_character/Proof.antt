@@ -4,8 +4,8 @@ use native.Mathlib.Omega.{arith}
 use borrow.Author.Needs.{needs}
 use Rattle.paper.proofs.Utf8.{lead-F0, lead-F1, lead-F4, lead-none-high}
 use Rattle.utf8.proofs.Character.{by-lead}
-use Rattle.utf8.proofs.characters.four_byte_character.Statement.{statement}
-use Rattle.utf8.proofs.characters.four_byte_character.Tie as tie
+use Rattle.utf8.proofs.by_ranges.four_byte_character.Statement.{statement}
+use Rattle.utf8.proofs.by_ranges.four_byte_character.Tie as tie
 
 four-bytes-requires : tie.Need-four-bytes-requires
 four-bytes-requires c κs = search needs

@@ -4,8 +4,8 @@ use native.Mathlib.Omega.{arith}
 use borrow.Author.Needs.{needs}
 use Rattle.paper.proofs.Utf8.{lead-none-low, lead-2}
 use Rattle.utf8.proofs.Character.{by-lead}
-use Rattle.utf8.proofs.characters.long_character.Statement.{statement}
-use Rattle.utf8.proofs.characters.long_character.Tie as tie
+use Rattle.utf8.proofs.by_ranges.long_character.Statement.{statement}
+use Rattle.utf8.proofs.by_ranges.long_character.Tie as tie
 
 returns : tie.Need-returns
 returns c = let o = c .before .before in by-lead (o .args .s .now) (o .pre .0) (lead-none-low (omega arith, omega arith) _)

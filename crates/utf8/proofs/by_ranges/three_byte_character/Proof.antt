@@ -4,8 +4,8 @@ use native.Mathlib.Omega.{arith}
 use borrow.Author.Needs.{needs}
 use Rattle.paper.proofs.Utf8.{lead-E0, lead-ED}
 use Rattle.utf8.proofs.Character.{by-lead, lead-3}
-use Rattle.utf8.proofs.characters.three_byte_character.Statement.{statement}
-use Rattle.utf8.proofs.characters.three_byte_character.Tie as tie
+use Rattle.utf8.proofs.by_ranges.three_byte_character.Statement.{statement}
+use Rattle.utf8.proofs.by_ranges.three_byte_character.Tie as tie
 
 three-bytes-requires : tie.Need-three-bytes-requires
 three-bytes-requires c κs = search needs
