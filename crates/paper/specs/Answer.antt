@@ -1,4 +1,4 @@
--- Document 01, "What each call may answer": accepted or one of nine refusals, and what lent memory holds afterwards.
+-- Document 01, "What each call may answer": accepted or a refusal, and what lent memory holds afterwards. Refusals 1 to 9 are document 01's, those from 10 up document 02's.
 use Prim.Native.Nat.{ℕ}
 use mathlib.Core.Bool.{Bool}
 use mathlib.Core.List.{List, _++_}
@@ -51,6 +51,18 @@ unequalSizes = refusal 8 0 0
 -- desk check: bytes are left over
 abbrev pub leftOver : ℕ → Refusal
 leftOver n = refusal 9 n 0
+
+-- the records do not fill the length: the last one is cut
+abbrev pub cut : Refusal
+cut = refusal 10 0 0
+
+-- the record at this place has a field out of its range
+abbrev pub outOfRange : ℕ → Refusal
+outOfRange place = refusal 11 place 0
+
+-- there are more whole records than the call takes
+abbrev pub tooMany : Refusal
+tooMany = refusal 12 0 0
 
 -- ---- answers
 -- what a call answers: 0 with a value, or a refusal. A refusal hands out no field and no tail.

@@ -1,8 +1,8 @@
--- The number of each refusal in document 01's table, and what it carries.
+-- The number of each refusal in the paper's table, and what it carries.
 use Rattle.paper.specs.Answer as paper
-use Rattle.paper.specs.Answer.{tooShort, wrongFormat, unknownMode, unknownSubFunction, noTroubleCode, badWidth, noRoom, unequalSizes, leftOver}
+use Rattle.paper.specs.Answer.{tooShort, wrongFormat, unknownMode, unknownSubFunction, noTroubleCode, badWidth, noRoom, unequalSizes, leftOver, cut, outOfRange, tooMany}
 use Rattle.wire.specs.declared.refusal.Refusal.{Refusal}
-use Rattle.wire.specs.declared.refusal.Refusal.the-variants.{TooShort, WrongFormat, UnknownMode, UnknownSubFunction, NoTroubleCode, BadWidth, NoRoom, UnequalSizes, LeftOver}
+use Rattle.wire.specs.declared.refusal.Refusal.the-variants.{TooShort, WrongFormat, UnknownMode, UnknownSubFunction, NoTroubleCode, BadWidth, NoRoom, UnequalSizes, LeftOver, Cut, OutOfRange, TooMany}
 
 abbrev pub row : Refusal → paper.Refusal
 row (TooShort needed available) = tooShort needed available
@@ -14,3 +14,6 @@ row (BadWidth w) = badWidth w
 row (NoRoom needed room) = noRoom needed room
 row UnequalSizes = unequalSizes
 row (LeftOver n) = leftOver n
+row Cut = cut
+row (OutOfRange place) = outOfRange place
+row TooMany = tooMany

@@ -1,4 +1,4 @@
-// Why a call refuses: a variant for each refusal of document 01's table, with what it carries.
+// Why a call refuses: a variant for each refusal of document 01's table and, from 10 up, of document 02, with what it carries.
 ghost use mathlib.Core.Path.{_≡_};
 ghost use Rattle.wire.specs.Refusals.{row};
 
@@ -21,6 +21,12 @@ pub enum Refusal {
     UnequalSizes,
     // 9: the desk check found so many bytes left over.
     LeftOver(usize),
+    // 10: the length is no whole number of records: the last one is cut.
+    Cut,
+    // 11: the record at this place has a field out of its range.
+    OutOfRange { place: usize },
+    // 12: there are more whole records than the call takes.
+    TooMany,
 }
 
 impl Refusal {
@@ -41,6 +47,9 @@ impl Refusal {
             Refusal::NoRoom { needed: _, room: _ } => 7,
             Refusal::UnequalSizes => 8,
             Refusal::LeftOver(_) => 9,
+            Refusal::Cut => 10,
+            Refusal::OutOfRange { place: _ } => 11,
+            Refusal::TooMany => 12,
         }
     }
 
@@ -61,6 +70,9 @@ impl Refusal {
             Refusal::NoRoom { needed, room: _ } => needed,
             Refusal::UnequalSizes => 0,
             Refusal::LeftOver(n) => n,
+            Refusal::Cut => 0,
+            Refusal::OutOfRange { place } => place,
+            Refusal::TooMany => 0,
         }
     }
 
@@ -81,6 +93,9 @@ impl Refusal {
             Refusal::BadWidth(_) => 0,
             Refusal::UnequalSizes => 0,
             Refusal::LeftOver(_) => 0,
+            Refusal::Cut => 0,
+            Refusal::OutOfRange { place: _ } => 0,
+            Refusal::TooMany => 0,
         }
     }
 }
