@@ -19,3 +19,6 @@ pub mod Vectors
 pub mod Codes
 pub mod Lines
 pub mod Desk
+pub mod Count
+pub mod Tally
+pub mod Sheets

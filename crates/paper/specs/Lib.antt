@@ -16,3 +16,4 @@ pub mod BadName
 pub mod LeadBytes
 pub mod ReadingProgram
 pub mod DeskProgram
+pub mod Tally
