@@ -2,7 +2,7 @@
 use mathlib.Core.Path.{_≡_}
 use mathlib.Core.List.{List}
 use Prim.Native.Nat.{ℕ, _+_, _%_, _^_}
-use Rattle.oracle_answers.specs.declared.tally.Tally.{Tally}
+use Rattle.oracle_answers.specs.declared.count.Tally.{Tally}
 
 abbrev pub oneMore : ℕ → ℕ
 oneMore n = (n + 1) % 2 ^ 64

@@ -1,8 +1,8 @@
 // The lines of a page. A line is a letter, an input in hexadecimal and the answer, with a space between.
+use crate::count::Tally;
+use crate::count::judged;
+use crate::count::passed;
 use crate::hex::bytes_of;
-use crate::tally::Tally;
-use crate::tally::judged;
-use crate::tally::passed;
 use bytes::scan::find;
 use oracle_text::text::begin;
 use oracle_text::text::put_hex;

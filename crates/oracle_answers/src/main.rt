@@ -1,10 +1,10 @@
 // Goes through a recorded list of the original's answers, in the file that its first argument names: makes each call anew, and prints the lines that differ.
+mod count;
 mod hex;
 mod line;
-mod tally;
 
+use count::Tally;
 use libc::STDOUT_FILENO;
-use tally::Tally;
 
 // As many as are read; a list has fewer.
 const PAGES: usize = 64;
@@ -17,7 +17,7 @@ fn next_page(fd: i32, t: Tally) -> Tally {
 }
 
 fn pages(fd: i32) -> Tally {
-    let mut t = tally::start();
+    let mut t = count::start();
     let mut i = 0;
     while i < PAGES {
         t = next_page(fd, t);
@@ -32,7 +32,7 @@ fn goes_on(fd: i32) -> bool {
 }
 
 fn replay(fd: i32) {
-    tally::sum_up(pages(fd));
+    count::sum_up(pages(fd));
     if goes_on(fd) {
         io::write_all(
             STDOUT_FILENO,

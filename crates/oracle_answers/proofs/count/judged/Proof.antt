@@ -1,10 +1,10 @@
--- `oracle_answers::tally::judged` meets its contract: by whether the two lines are the same.
+-- `oracle_answers::count::judged` meets its contract: by whether the two lines are the same.
 -- Assumes nothing.
 use mathlib.Core.Path.{sym, _∙_}
 use mathlib.Core.Bool.{false≢true}
 use borrow.Author.Needs.{needs}
-use Rattle.oracle_answers.proofs.tally.judged.Statement.{statement}
-use Rattle.oracle_answers.proofs.tally.judged.Tie as tie
+use Rattle.oracle_answers.proofs.count.judged.Statement.{statement}
+use Rattle.oracle_answers.proofs.count.judged.Tie as tie
 
 returns : tie.Need-returns
 returns c =

@@ -1,8 +1,8 @@
--- `oracle_answers::tally::passed` meets its contract: one line more.
+-- `oracle_answers::count::passed` meets its contract: one line more.
 -- Assumes nothing.
 use borrow.Author.Needs.{needs}
-use Rattle.oracle_answers.proofs.tally.passed.Statement.{statement}
-use Rattle.oracle_answers.proofs.tally.passed.Tie as tie
+use Rattle.oracle_answers.proofs.count.passed.Statement.{statement}
+use Rattle.oracle_answers.proofs.count.passed.Tie as tie
 
 returns : tie.Need-returns
 returns c = rw (c .wrapping-add-u64 .ensures)

@@ -1,0 +1,5 @@
+pub mod Turns
+pub mod Stores
+pub mod Cells
+pub mod Unique
+pub mod Tables
