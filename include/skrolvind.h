@@ -59,6 +59,13 @@ typedef struct {
     uint64_t found, high, middle, low, tail;
 } skr_next_trouble_code;
 
+/* A sheet of records counted: twelve months of ten counts each, one after the other. cells[10 * (month - 1) + number] is how
+ * many records have that month and that refusal number. After a refusal all are 0. */
+typedef struct {
+    uint64_t number, first, second;
+    uint32_t cells[120];
+} skr_tally;
+
 /* Reads a file transfer request from the start of the message. */
 skr_file_transfer skr_read_request(const uint8_t *message, size_t message_len);
 
@@ -108,6 +115,11 @@ skr_trouble_code skr_dtc_from_number(uint32_t number);
 
 /* The first trouble code of a buffer, and where the next one begins. */
 skr_next_trouble_code skr_dtc_next(const uint8_t *buffer, size_t buffer_len);
+
+/* Counts the records of a sheet by month and refusal number. A record has 8 bytes: month (1 to 12), station, direction (0
+ * request, 1 response), refusal number (0 to 9), and the coach number in four. Refusals: 12 for more than 65,536 whole records,
+ * then 10 where records_len is no multiple of 8, then 11 with the place (from 0) of the first record with a field out of range. */
+skr_tally skr_tally_records(const uint8_t *records, size_t records_len);
 
 #ifdef __cplusplus
 }

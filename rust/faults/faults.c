@@ -1,4 +1,4 @@
-/* One fault at a time in front of the library, to see that the comparison finds it: SKROLVIND_FAULT is its number, 1 to 46; with 0 there is none.
+/* One fault at a time in front of the library, to see that the comparison finds it: SKROLVIND_FAULT is its number, 1 to 49; with 0 there is none.
  * Each function calls the library's own, which `try` has given the prefix real_, and spoils the answer. `try` counts the lines that have FAULT ==. */
 #include <stdlib.h>
 #include <string.h>
@@ -133,3 +133,10 @@ DOOR(skr_next_trouble_code, skr_dtc_next, (const uint8_t *m, size_t n),
      if (FAULT == 21 && n == 8) c.tail = 4;                             /* the next code begins one byte late */
      if (FAULT == 38 && c.found && n > 3) LENT(m)[3] = 0;               /* the first byte of the next code is cleared */
      return c;)
+
+DOOR(skr_tally, skr_tally_records, (const uint8_t *m, size_t n),
+     skr_tally t = real_skr_tally_records(m, n);
+     if (FAULT == 47 && t.number == 11) t.first *= 8;                   /* the place counts bytes, not records */
+     if (FAULT == 48 && t.number == 12 && n % 8) t.number = 10;         /* a cut record is told before too many */
+     if (FAULT == 49) for (int i = 0; i < 120; i++) if (t.cells[i] > 65535) t.cells[i] = 65535; /* a count is held at 65,535 */
+     return t;)

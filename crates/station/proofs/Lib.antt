@@ -2,4 +2,5 @@ pub mod Written
 pub mod Transfers
 pub mod Routines
 pub mod Codes
+pub mod Sheets
 pub mod Unique

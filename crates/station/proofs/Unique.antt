@@ -25,6 +25,8 @@ use Rattle.station.proofs.trouble.skr_dtc_next.Kinds as dtc-next-kinds
 use Rattle.station.proofs.trouble.skr_dtc_next.Reads as dtc-next-reads
 use Rattle.station.proofs.trouble.skr_valid_up_to.Kinds as valid-up-to-kinds
 use Rattle.station.proofs.trouble.skr_valid_up_to.Reads as valid-up-to-reads
+use Rattle.station.proofs.sheet.skr_tally_records.Kinds as tally-records-kinds
+use Rattle.station.proofs.sheet.skr_tally_records.Reads as tally-records-reads
 use Rattle.station.proofs.transfer.skr_write_request as write-request
 use Rattle.station.proofs.transfer.skr_write_request.Kinds as write-request-kinds
 use Rattle.station.proofs.transfer.skr_write_request.Reads as write-request-reads
@@ -68,6 +70,9 @@ dtc-next-determined κs a x y r₁ r₂ p q = p ∙ sym q
 
 pub valid-up-to-determined : Determined 1 valid-up-to-kinds.ps valid-up-to-kinds.r valid-up-to-reads.Post
 valid-up-to-determined κs a x y r₁ r₂ p q = longest-once _ r₁ r₂ p q
+
+pub tally-records-determined : Determined 1 tally-records-kinds.ps tally-records-kinds.r tally-records-reads.Post
+tally-records-determined κs a x y r₁ r₂ p q = p ∙ sym q
 
 -- ---- writers: the record, and what the room, the last parameter, holds at the exit
 pub write-request-determined : (κs : Lfts 2) (a : ArgsD write-request.signature κs) (x y : AtExit (endedOf 2 write-request-kinds.ps write-request-kinds.r) κs) (r s : WrittenRecord)

@@ -3,7 +3,7 @@ use mathlib.Core.Path.{_≡_}
 use Prim.Native.Nat.{ℕ, _-_, _/_, _%_, _^_}
 use mathlib.Core.Bool.{Bool}
 use mathlib.Core.List.{List}
-use lib.ListN.{length}
+use lib.ListN.{length, replicate}
 use Rattle.paper.specs.Choice.{pick}
 use Rattle.paper.specs.Answer.{Refusal, Answer, accepted, refused, Read, _leaving_, written}
 use Rattle.paper.specs.Kind.{modeOf}
@@ -12,12 +12,14 @@ use Rattle.paper.specs.Response.{Response, AfterMode, ended, blockAndFormat, af
 use Rattle.paper.specs.Rewriting.{rewrittenInto}
 use Rattle.paper.specs.RoutineControl.{RoutineRequest, RoutineResponse, byteOf}
 use Rattle.paper.specs.TroubleCode.{TroubleCode, Next, none, next}
+use Rattle.tally.specs.Sheet.{cellsOf}
 use Rattle.station.specs.declared.records.FileTransferRecord.{FileTransferRecord}
 use Rattle.station.specs.declared.records.RoutineRecord.{RoutineRecord}
 use Rattle.station.specs.declared.records.WrittenRecord.{WrittenRecord}
 use Rattle.station.specs.declared.records.DeskRecord.{DeskRecord}
 use Rattle.station.specs.declared.records.TroubleCodeRecord.{TroubleCodeRecord}
 use Rattle.station.specs.declared.records.NextTroubleCodeRecord.{NextTroubleCodeRecord}
+use Rattle.station.specs.declared.records.TallyRecord.{TallyRecord}
 
 -- ---- file transfer messages, of a message of n bytes
 abbrev pub refusedTransfer : Refusal → FileTransferRecord
@@ -144,3 +146,8 @@ abbrev pub nextRecord : ℕ → Answer Next → NextTroubleCodeRecord
 nextRecord n (accepted none) = record { number = 0; first = 0; second = 0; found = 0; high = 0; middle = 0; low = 0; tail = 0 }
 nextRecord n (accepted (next (c leaving t))) = record { number = 0; first = 0; second = 0; found = 1; high = c .high; middle = c .middle; low = c .low; tail = n - length t }
 nextRecord n (refused e) = refusedNext e
+
+-- ---- the sheet of refusals
+abbrev pub tallyRecord : Answer (List (List ℕ)) → TallyRecord
+tallyRecord (accepted t) = record { number = 0; first = 0; second = 0; cells = cellsOf t }
+tallyRecord (refused e) = record { number = e .number; first = e .first; second = e .second; cells = replicate 120 0 }

@@ -2,5 +2,6 @@
 // Each answers on every input. A kind or a sub-function that does not exist, which only C can hand over, is refused before anything else.
 pub mod records;
 pub mod routine;
+pub mod sheet;
 pub mod transfer;
 pub mod trouble;

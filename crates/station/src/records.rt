@@ -80,6 +80,15 @@ pub struct NextTroubleCodeRecord {
     pub tail: u64,
 }
 
+// A sheet of records counted: month by month, ten counts each.
+#[repr(C)]
+pub struct TallyRecord {
+    pub number: u64,
+    pub first: u64,
+    pub second: u64,
+    pub cells: [u32; 120],
+}
+
 pub(crate) fn refused_write(e: Refusal) -> WrittenRecord
     ensures { λ r. ⌜ r ≡ writtenRecord (refused (row e)) ⌝ }
 {

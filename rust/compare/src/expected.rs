@@ -1,5 +1,6 @@
 //! The library's records and the binding's answers beside the plain answers: which record an answer has to be, and which answer the
 //! binding gave.
+use crate::model;
 use oracle::plain::{FileTransfer, NextCode, Refusal, Routine, place};
 use skrolvind::flat;
 
@@ -77,6 +78,20 @@ pub fn desk(answer: Result<(), Refusal>) -> flat::Desk {
         number: r.number,
         first: r.first,
         second: r.second,
+    }
+}
+
+pub fn tally(answer: Result<model::Table, Refusal>) -> flat::Tally {
+    let (r, table) = match answer {
+        Ok(table) => (Refusal::new(0, 0, 0), table),
+        Err(r) => (r, model::Table::default()),
+    };
+    let cells = table.concat().try_into();
+    flat::Tally {
+        number: r.number,
+        first: r.first,
+        second: r.second,
+        cells: cells.expect("twelve rows of ten cells"),
     }
 }
 

@@ -15,6 +15,7 @@ mod read;
 mod record;
 mod report;
 mod rng;
+mod sheets;
 mod sweep;
 mod tally;
 mod write;
@@ -58,6 +59,7 @@ fn main() {
     step(b, "names of 4 and 5 chosen bytes", sweep::names);
     step(b, "trouble-code numbers", sweep::numbers);
     step(b, "requests for the desk", desk::requests);
+    step(b, "sheets of records", sheets::sheets);
     if !arguments.quick {
         step(b, "all messages of up to 3 bytes", sweep::short_messages);
         step(b, "messages of 4 to 7 chosen bytes", sweep::chosen_messages);

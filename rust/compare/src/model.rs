@@ -284,6 +284,34 @@ pub fn held(part: &[u8], most: usize) -> Answer<&[u8]> {
     Ok(part)
 }
 
+/// Twelve months by ten refusal numbers.
+pub type Table = [[u32; 10]; 12];
+
+/// Document 02's Req 01: the count of records with each month and each refusal number.
+pub fn tally_records(records: &[u8]) -> Answer<Table> {
+    if records.len() / 8 > 65_536 {
+        return Err(Refusal::new(12, 0, 0));
+    }
+    let (records, piece) = records.as_chunks::<8>();
+    if !piece.is_empty() {
+        return Err(Refusal::new(10, 0, 0));
+    }
+    let good = |[month, _, direction, number, ..]: &[u8; 8]| {
+        (1..=12).contains(month) && matches!(direction, 0 | 1) && (0..=9).contains(number)
+    };
+    if let Some(place) = records.iter().position(|record| !good(record)) {
+        return Err(Refusal::new(11, place as u64, 0));
+    }
+    let mut table = Table::default();
+    for (row, month) in table.iter_mut().zip(1..) {
+        for (cell, number) in row.iter_mut().zip(0..) {
+            let here = |record: &&[u8; 8]| record[0] == month && record[3] == number;
+            *cell = records.iter().filter(here).count() as u32;
+        }
+    }
+    Ok(table)
+}
+
 /// These bytes after their count in `width` bytes.
 fn counted(width: usize, part: &[u8]) -> Vec<u8> {
     let count = part.len().to_be_bytes();

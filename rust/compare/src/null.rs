@@ -73,6 +73,12 @@ fn readers(bench: &mut Bench) {
         unsafe { c::skr_dtc_next(null, 0) },
         flat::dtc_next(none),
     );
+    reader(
+        bench,
+        Call::TallyRecords,
+        unsafe { c::skr_tally_records(null, 0) },
+        flat::tally_records(none),
+    );
 }
 
 fn reader<T: PartialEq + Debug>(bench: &mut Bench, call: Call, ours: T, wanted: T) {

@@ -1,6 +1,7 @@
 //! Random inputs: mostly well made, then damaged.
 use crate::bench::Bench;
 use crate::rng::Rng;
+use crate::sheets;
 use crate::write::{Routine, Transfer};
 
 /// Pieces of names; those from the tenth on are not UTF-8.
@@ -44,6 +45,9 @@ pub fn round(bench: &mut Bench, rng: &mut Rng) {
     message_and_damaged(bench, rng, &message);
     writers(bench, rng, 65_600);
     bench.name(&name(rng, 5_000));
+    for most in [3, 30, 300, 3_000] {
+        sheets::random(bench, rng, most);
+    }
 }
 
 /// A name with one fault, checked, read and written.

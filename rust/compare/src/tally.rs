@@ -18,9 +18,10 @@ pub enum Call {
     ValidUpTo,
     TroubleCode,
     NextTroubleCode,
+    TallyRecords,
 }
 
-const CALLS: [&str; 14] = [
+const CALLS: [&str; 15] = [
     "requests read",
     "responses read",
     "routine requests read",
@@ -35,6 +36,7 @@ const CALLS: [&str; 14] = [
     "names checked (against core::str::from_utf8)",
     "trouble codes of numbers",
     "next trouble codes",
+    "sheets of records tallied",
 ];
 
 /// What no door leads to, in the order of the letters that the recorded list has for it.
@@ -110,9 +112,10 @@ pub enum Rule {
     NameLength,
     NullPointer,
     Desk,
+    Sheet,
 }
 
-const RULES: [&str; 9] = [
+const RULES: [&str; 10] = [
     "size width 0 or 17 up: refusal 6 with the width",
     "routine request refused with 4: the byte is the low seven bits",
     "too little room: refusal 7, and nothing is written",
@@ -122,6 +125,7 @@ const RULES: [&str; 9] = [
     "name read that is not UTF-8: refusal 2 carries its good length",
     "null pointer with the length 0: an empty slice like any other",
     "desk check: ours, as document 02 has it",
+    "sheet of records: ours, as document 02 has it",
 ];
 
 impl Rule {

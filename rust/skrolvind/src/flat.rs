@@ -81,6 +81,16 @@ pub struct NextTroubleCode {
     pub tail: u64,
 }
 
+/// A sheet of records counted.
+#[repr(C)]
+#[derive(Clone, Copy, Debug, PartialEq, Eq)]
+pub struct Tally {
+    pub number: u64,
+    pub first: u64,
+    pub second: u64,
+    pub cells: [u32; 120],
+}
+
 /// The two sizes of a message to be written, in halves.
 #[derive(Clone, Copy, Debug, Default, PartialEq, Eq)]
 pub struct Sizes {
@@ -105,7 +115,7 @@ impl Sizes {
 
 /// The C functions themselves, over pointers: for those who have to hand over what no slice can be.
 pub mod c {
-    use super::{Desk, FileTransfer, NextTroubleCode, Routine, TroubleCode, Written};
+    use super::{Desk, FileTransfer, NextTroubleCode, Routine, Tally, TroubleCode, Written};
 
     unsafe extern "C" {
         pub fn skr_read_request(message: *const u8, message_len: usize) -> FileTransfer;
@@ -170,6 +180,7 @@ pub mod c {
         pub fn skr_valid_up_to(name: *const u8, name_len: usize) -> u64;
         pub safe fn skr_dtc_from_number(number: u32) -> TroubleCode;
         pub fn skr_dtc_next(buffer: *const u8, buffer_len: usize) -> NextTroubleCode;
+        pub fn skr_tally_records(records: *const u8, records_len: usize) -> Tally;
     }
 }
 
@@ -308,4 +319,12 @@ pub fn dtc_from_number(number: u32) -> TroubleCode {
 pub fn dtc_next(buffer: &[u8]) -> NextTroubleCode {
     // SAFETY: the pointer and the length are those of one slice.
     unsafe { c::skr_dtc_next(buffer.as_ptr(), buffer.len()) }
+}
+
+/// `skr_tally_records`.
+#[must_use]
+#[inline]
+pub fn tally_records(records: &[u8]) -> Tally {
+    // SAFETY: the pointer and the length are those of one slice.
+    unsafe { c::skr_tally_records(records.as_ptr(), records.len()) }
 }

@@ -167,3 +167,21 @@ pub fn next_trouble_code(buffer: &[u8]) -> Result<Option<(TroubleCode, &[u8])>, 
     };
     Ok(Some((code, &buffer[as_small(r.tail)..])))
 }
+
+/// How many records of 8 bytes have each month and each refusal number: `table[month - 1][number]`.
+///
+/// A record is month, station, direction, refusal number, and the coach number in four bytes.
+///
+/// # Errors
+/// Refusal 12 for more than 65,536 whole records, then 10 for a piece after the last one, then 11 with the place of the first
+/// record that has a field out of range: month 1 to 12, direction 0 or 1, refusal number 0 to 9.
+#[inline]
+pub fn tally_records(records: &[u8]) -> Result<[[u32; 10]; 12], Refusal> {
+    let r = flat::tally_records(records);
+    accepted(r.number, r.first, r.second)?;
+    let mut table = [[0; 10]; 12];
+    for (row, cells) in table.iter_mut().zip(r.cells.chunks_exact(10)) {
+        row.copy_from_slice(cells);
+    }
+    Ok(table)
+}

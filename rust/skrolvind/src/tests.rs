@@ -250,3 +250,48 @@ fn the_desk() {
     assert_eq!(desk_check(&[3, 0, 0, 0x00, 1, 9, 9]), Ok(()));
     assert_eq!(desk_check(&[2, 0, 1, 0x61]), Ok(()));
 }
+
+/// Records of station 7 and coach 123,456.
+fn sheet(records: &[(u8, u8, u8)]) -> Vec<u8> {
+    let bytes = |&(month, direction, number)| [month, 7, direction, number, 0, 1, 0xE2, 0x40];
+    records.iter().flat_map(bytes).collect()
+}
+
+#[test]
+fn a_sheet_counted() {
+    let records = [(1, 0, 0), (1, 1, 0), (1, 0, 6), (12, 1, 9), (6, 0, 3)];
+    let mut wanted = [[0; 10]; 12];
+    wanted[0][0] = 2;
+    wanted[0][6] = 1;
+    wanted[5][3] = 1;
+    wanted[11][9] = 1;
+    assert_eq!(tally_records(&sheet(&records)), Ok(wanted));
+    assert_eq!(tally_records(&[]), Ok([[0; 10]; 12]));
+    let mut full = [[0; 10]; 12];
+    full[10][8] = 65_536;
+    let records = sheet(&vec![(11, 1, 8); 65_536]);
+    assert_eq!(tally_records(&records), Ok(full));
+}
+
+#[test]
+fn refused_sheets() {
+    let good = (1, 0, 0);
+    for bad in [
+        (0, 0, 0),
+        (13, 0, 0),
+        (1, 2, 0),
+        (1, 0, 10),
+        (255, 255, 255),
+    ] {
+        let records = sheet(&[good, good, bad, good, bad]);
+        assert_eq!(tally_records(&records), Err(refusal(11, 2, 0)));
+        assert_eq!(tally_records(&records[..39]), Err(refusal(10, 0, 0)));
+    }
+    let many = sheet(&vec![good; 65_537]);
+    assert_eq!(tally_records(&many), Err(refusal(12, 0, 0)));
+    let piece = &many[..many.len() - 1];
+    assert_eq!(tally_records(piece), Err(refusal(10, 0, 0)));
+    let more = [&many[..], &[1]].concat();
+    assert_eq!(tally_records(&more), Err(refusal(12, 0, 0)));
+    assert_eq!(flat::tally_records(&more).cells, [0; 120]);
+}

@@ -4,7 +4,7 @@ use core::fmt;
 /// Why a call was refused: the number of the refusal (`docs/REFUSALS.md` says what each one means) and the two values that it carries.
 #[derive(Clone, Copy, Debug, PartialEq, Eq, Hash)]
 pub struct Refusal {
-    /// From 1 to 9.
+    /// From 1 to 12.
     pub number: u64,
     /// The first value, or 0. Of refusal 2 for a name that is not UTF-8: the length of its longest beginning that is.
     pub first: u64,

@@ -8,6 +8,7 @@ mod messages;
 mod row;
 mod rows;
 mod same;
+mod sheet;
 mod table;
 
 use arguments::Arguments;

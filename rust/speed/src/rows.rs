@@ -2,6 +2,7 @@
 use crate::messages::{self, TEXTS, Text, name};
 use crate::row::{Codec, Row, read_and_written, read_only};
 use crate::same::{self, Read};
+use crate::sheet;
 use oracle::itself::{
     Decode, DecodeIter, DtcRecord, Encode, Error, NamePayload, RequestFileTransferRequest,
     RequestFileTransferResponse, RoutineControlRequest, RoutineControlResponse,
@@ -34,6 +35,8 @@ pub fn rows() -> Vec<Row> {
     rows.push(trouble_code(0x0012_3456));
     rows.push(trouble_codes(messages::counted_up(300).leak()));
     rows.extend(names().map(|(len, text)| name_check(len, text)));
+    rows.extend([100, 65_536].map(|count| tallied("a year's sheet", sheet::year(count))));
+    rows.push(tallied("every cell in turn", sheet::cells_in_turn(65_536)));
     rows
 }
 
@@ -187,5 +190,15 @@ fn name_check(len: usize, text: Text) -> Row {
     let calls = (core::str::from_utf8, skrolvind::valid_up_to);
     read_only(&what, len, name, calls, |original, port| {
         original.is_ok_and(|text| text.len() == *port)
+    })
+}
+
+/// A sheet of records, against the same loop in Rust.
+fn tallied(called: &str, records: Vec<u8>) -> Row {
+    let what = format!("tally of {} records, {called}", records.len() / 8);
+    let records: &'static [u8] = records.leak();
+    let calls = (sheet::tally, skrolvind::tally_records);
+    read_only(&what, records.len(), records, calls, |original, port| {
+        original.is_some() && *original == port.ok()
     })
 }
