@@ -1,4 +1,3 @@
 pub mod Lines
-pub mod Decimal
 pub mod Laid
 pub mod Unique

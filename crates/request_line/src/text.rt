@@ -3,29 +3,20 @@
 use crate::line::Line;
 use crate::line::Shown;
 use crate::line::line_of;
-use wire::refusal::Refusal;
+use ascii_text::put_decimal;
+use ascii_text::put_field;
+use ascii_text::put_refused;
 use wire::write::put_byte;
 use wire::write::put_bytes;
 ghost use mathlib.Core.Path.{_≡_};
-ghost use mathlib.Core.List.{_++_};
 ghost use Prim.Native.Nat.{_≤_};
 ghost use lib.ListN.{length};
 ghost use Rattle.io.specs.Counts.{Counts};
 ghost use Rattle.paper.specs.Answer.{over};
-ghost use Rattle.paper.specs.ReadingProgram.{decimal, shownText, textOf, good, bad, lineOf};
-ghost use Rattle.wire.specs.Refusals.{row};
+ghost use Rattle.paper.specs.ReadingProgram.{shownText, textOf, good, lineOf};
+ghost use Rattle.ascii_text.specs.Text.{Put};
 ghost use Rattle.request_line.specs.Line.{shownOf, lineSaid};
-ghost use Rattle.request_line.specs.Text.{Put, front};
-
-// The digits of a number, written from the start of `out`; how many they are.
-fn put_decimal(n: u64, out: &mut [u8]) -> usize
-    ensures { λ r. ⌜ Put (decimal n) r 20 (now (out .entry)) (now (out .exit)) ⌝ }
-{
-    let mut digits = [0u8; 20];
-    let k = io::decimal(n, &mut digits);
-    put_bytes(&digits[..k], out);
-    k
-}
+ghost use Rattle.request_line.specs.Text.{front};
 
 fn put_shown(format: Shown, out: &mut [u8]) -> usize
     ensures { λ r. ⌜ Put (shownText (shownOf format)) r 20 (now (out .entry)) (now (out .exit)) ⌝ }
@@ -37,15 +28,6 @@ fn put_shown(format: Shown, out: &mut [u8]) -> usize
         }
         Shown::Byte(b) => put_decimal(b as u64, out),
     }
-}
-
-// A word and the number after it.
-fn put_field(word: &[u8], n: u64, out: &mut [u8]) -> usize
-    requires { ⌜ (length (now word) ≤ length (now out)) × (length (now word) ≤ 14) ⌝ }
-    ensures { λ r. ⌜ Put (now (word .entry) ++ decimal n) r 34 (now (out .entry)) (now (out .exit)) ⌝ }
-{
-    put_bytes(word, out);
-    word.len() + put_decimal(n, &mut out[word.len()..])
 }
 
 // `accepted kind K name N format F`.
@@ -77,18 +59,6 @@ fn put_accepted(
     let f = e + put_field(b" left ", left as u64, &mut out[e..]);
     put_byte(b'\n', &mut out[f..]);
     f + 1
-}
-
-// `refused N A B` and the line feed.
-fn put_refused(refusal: Refusal, out: &mut [u8]) -> usize
-    requires { ⌜ 160 ≤ length (now out) ⌝ }
-    ensures { λ r. ⌜ Put (textOf (bad (row refusal))) r 160 (now (out .entry)) (now (out .exit)) ⌝ }
-{
-    let a = put_field(b"refused ", refusal.number() as u64, out);
-    let b = a + put_field(b" ", refusal.first() as u64, &mut out[a..]);
-    let c = b + put_field(b" ", refusal.second() as u64, &mut out[b..]);
-    put_byte(b'\n', &mut out[c..]);
-    c + 1
 }
 
 // The text of a line, from the start of `out`, which has room enough for any line. How many bytes it has.

@@ -3,7 +3,7 @@
 use mathlib.Core.Path.{sym, ap, _∙_}
 use borrow.Author.Needs.{needs}
 use Rattle.desk_check.specs.Desk.{deskSaid}
-use Rattle.request_line.proofs.Laid.{put-leaf, put-over}
+use Rattle.ascii_text.proofs.Laid.{put-leaf, put-over}
 use Rattle.desk_line.proofs.Lines.{too-long, judged}
 use Rattle.desk_line.proofs.desk_text.Statement.{statement}
 use Rattle.desk_line.proofs.desk_text.Tie as tie

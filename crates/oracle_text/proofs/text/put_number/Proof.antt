@@ -2,7 +2,7 @@
 -- Assumes nothing.
 use mathlib.Core.Path.{_∙_}
 use borrow.Author.Needs.{needs}
-use Rattle.request_line.proofs.Decimal.{decimal-is}
+use Rattle.ascii_text.proofs.Decimal.{decimal-is}
 use Rattle.oracle_text.specs.Text.{addNumber}
 use Rattle.oracle_text.proofs.text.put_number.Statement.{statement}
 use Rattle.oracle_text.proofs.text.put_number.Tie as tie
