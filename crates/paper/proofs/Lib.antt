@@ -22,3 +22,4 @@ pub mod Desk
 pub mod Count
 pub mod Tally
 pub mod Sheets
+pub mod WrongLoads

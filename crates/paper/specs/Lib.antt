@@ -17,3 +17,5 @@ pub mod LeadBytes
 pub mod ReadingProgram
 pub mod DeskProgram
 pub mod Tally
+pub mod Form
+pub mod WrongLoads
