@@ -23,3 +23,4 @@ pub mod Count
 pub mod Tally
 pub mod Sheets
 pub mod WrongLoads
+pub mod Chart

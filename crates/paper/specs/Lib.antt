@@ -19,3 +19,4 @@ pub mod DeskProgram
 pub mod Tally
 pub mod Form
 pub mod WrongLoads
+pub mod Chart
