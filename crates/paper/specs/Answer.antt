@@ -64,6 +64,18 @@ outOfRange place = refusal 11 place 0
 abbrev pub tooMany : Refusal
 tooMany = refusal 12 0 0
 
+-- the record at this place is a step that the state or its kind does not allow
+abbrev pub notAllowed : ℕ → Refusal
+notAllowed place = refusal 13 place 0
+
+-- the block at this place has neither the next counter nor the last one
+abbrev pub wrongCounter : ℕ → Refusal
+wrongCounter place = refusal 14 place 0
+
+-- the record at this place has a service byte that is none of a transfer's
+abbrev pub unknownService : ℕ → Refusal
+unknownService place = refusal 15 place 0
+
 -- ---- answers
 -- what a call answers: 0 with a value, or a refusal. A refusal hands out no field and no tail.
 pub data Answer (A : Type 0) : Type 0 where

@@ -1,8 +1,8 @@
 -- The number of each refusal in the paper's table, and what it carries.
 use Rattle.paper.specs.Answer as paper
-use Rattle.paper.specs.Answer.{tooShort, wrongFormat, unknownMode, unknownSubFunction, noTroubleCode, badWidth, noRoom, unequalSizes, leftOver, cut, outOfRange, tooMany}
+use Rattle.paper.specs.Answer.{tooShort, wrongFormat, unknownMode, unknownSubFunction, noTroubleCode, badWidth, noRoom, unequalSizes, leftOver, cut, outOfRange, tooMany, notAllowed, wrongCounter, unknownService}
 use Rattle.wire.specs.declared.refusal.Refusal.{Refusal}
-use Rattle.wire.specs.declared.refusal.Refusal.the-variants.{TooShort, WrongFormat, UnknownMode, UnknownSubFunction, NoTroubleCode, BadWidth, NoRoom, UnequalSizes, LeftOver, Cut, OutOfRange, TooMany}
+use Rattle.wire.specs.declared.refusal.Refusal.the-variants.{TooShort, WrongFormat, UnknownMode, UnknownSubFunction, NoTroubleCode, BadWidth, NoRoom, UnequalSizes, LeftOver, Cut, OutOfRange, TooMany, NotAllowed, WrongCounter, UnknownService}
 
 abbrev pub row : Refusal → paper.Refusal
 row (TooShort needed available) = tooShort needed available
@@ -17,3 +17,6 @@ row (LeftOver n) = leftOver n
 row Cut = cut
 row (OutOfRange place) = outOfRange place
 row TooMany = tooMany
+row (NotAllowed place) = notAllowed place
+row (WrongCounter place) = wrongCounter place
+row (UnknownService place) = unknownService place

@@ -27,6 +27,12 @@ pub enum Refusal {
     OutOfRange { place: usize },
     // 12: there are more whole records than the call takes.
     TooMany,
+    // 13: the record at this place is a step that the state or its kind does not allow.
+    NotAllowed { place: usize },
+    // 14: the block at this place has neither the next counter nor the last one.
+    WrongCounter { place: usize },
+    // 15: the record at this place has a service byte that is none of a transfer's.
+    UnknownService { place: usize },
 }
 
 impl Refusal {
@@ -50,6 +56,9 @@ impl Refusal {
             Refusal::Cut => 10,
             Refusal::OutOfRange { place: _ } => 11,
             Refusal::TooMany => 12,
+            Refusal::NotAllowed { place: _ } => 13,
+            Refusal::WrongCounter { place: _ } => 14,
+            Refusal::UnknownService { place: _ } => 15,
         }
     }
 
@@ -73,6 +82,9 @@ impl Refusal {
             Refusal::Cut => 0,
             Refusal::OutOfRange { place } => place,
             Refusal::TooMany => 0,
+            Refusal::NotAllowed { place } => place,
+            Refusal::WrongCounter { place } => place,
+            Refusal::UnknownService { place } => place,
         }
     }
 
@@ -96,6 +108,9 @@ impl Refusal {
             Refusal::Cut => 0,
             Refusal::OutOfRange { place: _ } => 0,
             Refusal::TooMany => 0,
+            Refusal::NotAllowed { place: _ } => 0,
+            Refusal::WrongCounter { place: _ } => 0,
+            Refusal::UnknownService { place: _ } => 0,
         }
     }
 }
