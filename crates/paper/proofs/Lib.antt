@@ -24,3 +24,5 @@ pub mod Tally
 pub mod Sheets
 pub mod WrongLoads
 pub mod Chart
+pub mod Replay
+pub mod ReplayVectors

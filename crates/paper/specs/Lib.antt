@@ -20,3 +20,5 @@ pub mod Tally
 pub mod Form
 pub mod WrongLoads
 pub mod Chart
+pub mod Replay
+pub mod ReplayProgram
