@@ -3,4 +3,5 @@ pub mod Transfers
 pub mod Routines
 pub mod Codes
 pub mod Sheets
+pub mod Stepped
 pub mod Unique

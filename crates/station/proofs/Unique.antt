@@ -27,6 +27,10 @@ use Rattle.station.proofs.trouble.skr_valid_up_to.Kinds as valid-up-to-
 use Rattle.station.proofs.trouble.skr_valid_up_to.Reads as valid-up-to-reads
 use Rattle.station.proofs.sheet.skr_tally_records.Kinds as tally-records-kinds
 use Rattle.station.proofs.sheet.skr_tally_records.Reads as tally-records-reads
+use Rattle.station.proofs.replays.skr_replay_log.Kinds as replay-log-kinds
+use Rattle.station.proofs.replays.skr_replay_log.Reads as replay-log-reads
+use Rattle.station.proofs.replays.skr_replay_step.Kinds as replay-step-kinds
+use Rattle.station.proofs.replays.skr_replay_step.Reads as replay-step-reads
 use Rattle.station.proofs.transfer.skr_write_request as write-request
 use Rattle.station.proofs.transfer.skr_write_request.Kinds as write-request-kinds
 use Rattle.station.proofs.transfer.skr_write_request.Reads as write-request-reads
@@ -73,6 +77,12 @@ valid-up-to-determined κs a x y r₁ r₂ p q = longest-once _ r₁ r₂ p q
 
 pub tally-records-determined : Determined 1 tally-records-kinds.ps tally-records-kinds.r tally-records-reads.Post
 tally-records-determined κs a x y r₁ r₂ p q = p ∙ sym q
+
+pub replay-log-determined : Determined 1 replay-log-kinds.ps replay-log-kinds.r replay-log-reads.Post
+replay-log-determined κs a x y r₁ r₂ p q = p ∙ sym q
+
+pub replay-step-determined : Determined 0 replay-step-kinds.ps replay-step-kinds.r replay-step-reads.Post
+replay-step-determined κs a x y r₁ r₂ p q = p ∙ sym q
 
 -- ---- writers: the record, and what the room, the last parameter, holds at the exit
 pub write-request-determined : (κs : Lfts 2) (a : ArgsD write-request.signature κs) (x y : AtExit (endedOf 2 write-request-kinds.ps write-request-kinds.r) κs) (r s : WrittenRecord)

@@ -1,5 +1,5 @@
 // The records that cross the doors. Each begins with the refusal's number (0 for accepted) and the two values that it carries;
-// after a refusal every other field is 0.
+// after a refusal every other field is 0, but for the state of a recorded transfer, which stands beside a refusal too.
 use file_operation::rewrite::RewriteAnswer;
 use wire::refusal::Refusal;
 use wire::write::WriteAnswer;
@@ -87,6 +87,19 @@ pub struct TallyRecord {
     pub first: u64,
     pub second: u64,
     pub cells: [u32; 120],
+}
+
+// The state of a recorded transfer, or beside a refusal the state before it. `open` and `has_last` are 0 or 1; without a last counter `last` is 0.
+#[repr(C)]
+pub struct ReplayRecord {
+    pub number: u64,
+    pub first: u64,
+    pub second: u64,
+    pub open: u64,
+    pub has_last: u64,
+    pub last: u64,
+    pub repeats: u64,
+    pub total: u64,
 }
 
 pub(crate) fn refused_write(e: Refusal) -> WrittenRecord
