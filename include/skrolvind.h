@@ -4,8 +4,9 @@
  * function but a writer changes a byte of what it is lent. Two slices that are lent to one call must not overlap.
  *
  * Every record begins with three numbers: 0, 0, 0 where the call was accepted, else the number of the refusal and the two
- * values that it carries (docs/REFUSALS.md). After a refusal every other field is 0. A kind or a sub-function that does not
- * exist is refused before anything else is looked at.
+ * values that it carries (docs/REFUSALS.md). After a refusal every other field is 0, but for the state of a recorded
+ * transfer, which stands beside a refusal too. A kind or a sub-function that does not exist is refused before anything else
+ * is looked at.
  *
  * Refusal 2 for a name that is not UTF-8 says where the name goes bad: `first` is the length, in bytes of the name, of its
  * longest beginning that is UTF-8 (what skr_valid_up_to answers). For whatever is too long it is 0.
@@ -66,6 +67,14 @@ typedef struct {
     uint32_t cells[120];
 } skr_tally;
 
+/* The state of a recorded transfer: `open` is 1 or 0; `has_last` is 1 where this transfer has an accepted block, whose
+ * counter is then `last`, else both are 0; repeats and total (bytes) are over the whole log. Beside a refusal it is the state
+ * before the record that was refused. */
+typedef struct {
+    uint64_t number, first, second;
+    uint64_t open, has_last, last, repeats, total;
+} skr_replay;
+
 /* Reads a file transfer request from the start of the message. */
 skr_file_transfer skr_read_request(const uint8_t *message, size_t message_len);
 
@@ -120,6 +129,18 @@ skr_next_trouble_code skr_dtc_next(const uint8_t *buffer, size_t buffer_len);
  * request, 1 response), refusal number (0 to 9), and the coach number in four. Refusals: 12 for more than 65,536 whole records,
  * then 10 where records_len is no multiple of 8, then 11 with the place (from 0) of the first record with a field out of range. */
 skr_tally skr_tally_records(const uint8_t *records, size_t records_len);
+
+/* Runs a log of records of 4 bytes (service, kind or block counter, payload length high first) through the rules, from a state
+ * that is closed and all 0. 12 for more than 65,536 records, then 10 for a cut last one, both with that first state; then the
+ * first bad record ends the run, with its place, counted from 0: 15 unknown service, then 13 a step that the state or the kind
+ * does not allow, then 14 wrong counter. */
+skr_replay skr_replay_log(const uint8_t *log, size_t log_len);
+
+/* Runs one record after a state, for whoever follows a transfer while it runs. The state begins as all 0; what the answer says
+ * of it is handed over the next time. A closed transfer has no last counter: `has_last` and `last` are looked at only where they
+ * count. A refusal (15, 13, 14) carries `place`, and the state is as it was; 12 where repeats or total would pass 64 bits. */
+skr_replay skr_replay_step(bool open, bool has_last, uint8_t last, uint64_t repeats, uint64_t total,
+                           uint8_t service, uint8_t kind_or_counter, uint16_t payload, size_t place);
 
 #ifdef __cplusplus
 }

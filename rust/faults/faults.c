@@ -1,4 +1,4 @@
-/* One fault at a time in front of the library, to see that the comparison finds it: SKROLVIND_FAULT is its number, 1 to 49; with 0 there is none.
+/* One fault at a time in front of the library, to see that the comparison finds it: SKROLVIND_FAULT is its number, 1 to 56; with 0 there is none.
  * Each function calls the library's own, which `try` has given the prefix real_, and spoils the answer. `try` counts the lines that have FAULT ==. */
 #include <stdlib.h>
 #include <string.h>
@@ -140,3 +140,20 @@ DOOR(skr_tally, skr_tally_records, (const uint8_t *m, size_t n),
      if (FAULT == 48 && t.number == 12 && n % 8) t.number = 10;         /* a cut record is told before too many */
      if (FAULT == 49) for (int i = 0; i < 120; i++) if (t.cells[i] > 65535) t.cells[i] = 65535; /* a count is held at 65,535 */
      return t;)
+
+DOOR(skr_replay, skr_replay_log, (const uint8_t *m, size_t n),
+     skr_replay r = real_skr_replay_log(m, n);
+     const uint8_t *bad = m + 4 * r.first;
+     if (FAULT == 50 && r.repeats) r.total += r.repeats;                /* a repeat adds a byte */
+     if (FAULT == 51 && r.number == 14 && r.last == 255 && bad[1] == 1) { r.number = 0; r.first = 0; r.last = 1; } /* 255 followed by 1 */
+     if (FAULT == 52 && r.number == 14 && r.has_last) r.last = bad[1];  /* the state after the bad record */
+     if (FAULT == 53 && r.number == 13 && bad[0] == 0x36 && bad[1] != 1) r.number = 14; /* 14 before 13 */
+     if (FAULT == 54 && r.number == 12 && n % 4) r.number = 10;         /* 10 before 12 */
+     return r;)
+
+DOOR(skr_replay, skr_replay_step,
+     (bool o, bool h, uint8_t l, uint64_t p, uint64_t t, uint8_t s, uint8_t k, uint16_t b, size_t i),
+     skr_replay r = real_skr_replay_step(o, h, l, p, t, s, k, b, i);
+     if (FAULT == 55 && r.number == 0 && !r.open && h) { r.has_last = 1; r.last = l; } /* the last counter is kept once closed */
+     if (FAULT == 56 && r.number == 12) { r.number = 0; r.total += b; } /* a total is cut to 64 bits */
+     return r;)

@@ -7,12 +7,14 @@ mod desk;
 mod expected;
 mod grid;
 mod items;
+mod log_model;
 mod model;
 mod names;
 mod null;
 mod random;
 mod read;
 mod record;
+mod replays;
 mod report;
 mod rng;
 mod sheets;
@@ -60,6 +62,9 @@ fn main() {
     step(b, "trouble-code numbers", sweep::numbers);
     step(b, "requests for the desk", desk::requests);
     step(b, "sheets of records", sheets::sheets);
+    step(b, "logs of up to 5 chosen records", replays::short_logs);
+    step(b, "every record after each state", replays::every_record);
+    step(b, "long logs", replays::long_logs);
     if !arguments.quick {
         step(b, "all messages of up to 3 bytes", sweep::short_messages);
         step(b, "messages of 4 to 7 chosen bytes", sweep::chosen_messages);
@@ -86,9 +91,11 @@ fn save(path: &str, recorder: &Recorder) {
 
 /// At least one round, and more until the time is over; the first alone is recorded.
 fn random_rounds(bench: &mut Bench, seed: u64, end: Instant) {
-    let mut rng = Rng::new(seed);
+    // logs are drawn by numbers of their own, so that the recorded answers stay as they are
+    let (mut rng, mut logs) = (Rng::new(seed), Rng::new(!seed));
     loop {
         random::round(bench, &mut rng);
+        replays::round(bench, &mut logs);
         if let Some(recorder) = &mut bench.recorder {
             recorder.end();
         }

@@ -79,6 +79,12 @@ fn readers(bench: &mut Bench) {
         unsafe { c::skr_tally_records(null, 0) },
         flat::tally_records(none),
     );
+    reader(
+        bench,
+        Call::ReplayLog,
+        unsafe { c::skr_replay_log(null, 0) },
+        flat::replay_log(none),
+    );
 }
 
 fn reader<T: PartialEq + Debug>(bench: &mut Bench, call: Call, ours: T, wanted: T) {

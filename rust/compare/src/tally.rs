@@ -19,9 +19,11 @@ pub enum Call {
     TroubleCode,
     NextTroubleCode,
     TallyRecords,
+    ReplayLog,
+    ReplayStep,
 }
 
-const CALLS: [&str; 15] = [
+const CALLS: [&str; 17] = [
     "requests read",
     "responses read",
     "routine requests read",
@@ -37,6 +39,8 @@ const CALLS: [&str; 15] = [
     "trouble codes of numbers",
     "next trouble codes",
     "sheets of records tallied",
+    "logs of transfers run",
+    "records of transfers run",
 ];
 
 /// What no door leads to, in the order of the letters that the recorded list has for it.
@@ -113,9 +117,10 @@ pub enum Rule {
     NullPointer,
     Desk,
     Sheet,
+    Replay,
 }
 
-const RULES: [&str; 10] = [
+const RULES: [&str; 11] = [
     "size width 0 or 17 up: refusal 6 with the width",
     "routine request refused with 4: the byte is the low seven bits",
     "too little room: refusal 7, and nothing is written",
@@ -126,6 +131,7 @@ const RULES: [&str; 10] = [
     "null pointer with the length 0: an empty slice like any other",
     "desk check: ours, as document 02 has it",
     "sheet of records: ours, as document 02 has it",
+    "recorded transfers: ours, as document 02 has them",
 ];
 
 impl Rule {

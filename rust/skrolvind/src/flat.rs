@@ -91,6 +91,20 @@ pub struct Tally {
     pub cells: [u32; 120],
 }
 
+/// The state of a recorded transfer, or beside a refusal the state before it.
+#[repr(C)]
+#[derive(Clone, Copy, Debug, Default, PartialEq, Eq)]
+pub struct Replay {
+    pub number: u64,
+    pub first: u64,
+    pub second: u64,
+    pub open: u64,
+    pub has_last: u64,
+    pub last: u64,
+    pub repeats: u64,
+    pub total: u64,
+}
+
 /// The two sizes of a message to be written, in halves.
 #[derive(Clone, Copy, Debug, Default, PartialEq, Eq)]
 pub struct Sizes {
@@ -115,7 +129,9 @@ impl Sizes {
 
 /// The C functions themselves, over pointers: for those who have to hand over what no slice can be.
 pub mod c {
-    use super::{Desk, FileTransfer, NextTroubleCode, Routine, Tally, TroubleCode, Written};
+    use super::{
+        Desk, FileTransfer, NextTroubleCode, Replay, Routine, Tally, TroubleCode, Written,
+    };
 
     unsafe extern "C" {
         pub fn skr_read_request(message: *const u8, message_len: usize) -> FileTransfer;
@@ -181,6 +197,18 @@ pub mod c {
         pub safe fn skr_dtc_from_number(number: u32) -> TroubleCode;
         pub fn skr_dtc_next(buffer: *const u8, buffer_len: usize) -> NextTroubleCode;
         pub fn skr_tally_records(records: *const u8, records_len: usize) -> Tally;
+        pub fn skr_replay_log(log: *const u8, log_len: usize) -> Replay;
+        pub safe fn skr_replay_step(
+            open: bool,
+            has_last: bool,
+            last: u8,
+            repeats: u64,
+            total: u64,
+            service: u8,
+            kind_or_counter: u8,
+            payload: u16,
+            place: usize,
+        ) -> Replay;
     }
 }
 
@@ -327,4 +355,12 @@ pub fn dtc_next(buffer: &[u8]) -> NextTroubleCode {
 pub fn tally_records(records: &[u8]) -> Tally {
     // SAFETY: the pointer and the length are those of one slice.
     unsafe { c::skr_tally_records(records.as_ptr(), records.len()) }
+}
+
+/// `skr_replay_log`.
+#[must_use]
+#[inline]
+pub fn replay_log(log: &[u8]) -> Replay {
+    // SAFETY: the pointer and the length are those of one slice.
+    unsafe { c::skr_replay_log(log.as_ptr(), log.len()) }
 }

@@ -18,11 +18,13 @@
 
 pub mod flat;
 mod read;
+mod replay;
 #[cfg(test)]
 mod tests;
 mod types;
 mod write;
 
 pub use read::*;
+pub use replay::*;
 pub use types::*;
 pub use write::*;

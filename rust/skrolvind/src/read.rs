@@ -19,7 +19,7 @@ pub(crate) const fn accepted(number: u64, first: u64, second: u64) -> Result<(),
 
 /// A number of the library as a byte, a length or whatever else is wanted; it is proved to be small enough.
 #[inline]
-fn as_small<T: TryFrom<u64>>(number: u64) -> T {
+pub(crate) fn as_small<T: TryFrom<u64>>(number: u64) -> T {
     T::try_from(number).unwrap_or_else(|_| impossible(number))
 }
 

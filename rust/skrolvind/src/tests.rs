@@ -295,3 +295,71 @@ fn refused_sheets() {
     assert_eq!(tally_records(&more), Err(refusal(12, 0, 0)));
     assert_eq!(flat::tally_records(&more).cells, [0; 120]);
 }
+
+const fn state(transfer: Transfer, repeats: u64, total: u64) -> TransferState {
+    TransferState {
+        transfer,
+        repeats,
+        total,
+    }
+}
+
+#[test]
+fn recorded_transfers() {
+    let closed = state(Transfer::Closed, 0, 0);
+    assert_eq!(replay_log(&[]), Ok(closed));
+    assert_eq!(TransferState::default(), closed);
+    // a repeat, then the first block of a second transfer
+    let log = [
+        [0x38, 1, 9, 9],
+        [0x36, 1, 0x10, 0],
+        [0x36, 1, 0x10, 0],
+        [0x37, 1, 2, 3],
+        [0x38, 6, 0, 0],
+        [0x36, 1, 0, 5],
+        [0x36, 3, 0, 5],
+    ]
+    .concat();
+    let open = |last| Transfer::Open { last };
+    assert_eq!(replay_log(&log[..4]), Ok(state(open(None), 0, 0)));
+    assert_eq!(replay_log(&log[..16]), Ok(state(Transfer::Closed, 1, 4096)));
+    assert_eq!(replay_log(&log[..24]), Ok(state(open(Some(1)), 1, 4101)));
+    let stopped = Stopped {
+        refusal: refusal(14, 6, 0),
+        state: state(open(Some(1)), 1, 4101),
+    };
+    assert_eq!(replay_log(&log), Err(stopped));
+    let refused = |number| {
+        Err(Stopped {
+            refusal: refusal(number, 0, 0),
+            state: closed,
+        })
+    };
+    assert_eq!(replay_log(&log[..27]), refused(10));
+    assert_eq!(replay_log(&vec![0; 262_145]), refused(10));
+    assert_eq!(replay_log(&vec![0; 262_149]), refused(12));
+    assert_eq!(replay_log(&vec![0; 262_144]), refused(15));
+    assert_eq!(replay_log(&[0x38, 2, 0, 0]), refused(13));
+}
+
+#[test]
+fn a_transfer_followed_while_it_runs() {
+    let block = |kind_or_counter| LogRecord {
+        service: 0x36,
+        kind_or_counter,
+        payload: 4,
+    };
+    let after = |last| state(Transfer::Open { last: Some(last) }, 3, 4096);
+    let next = state(Transfer::Open { last: Some(0) }, 3, 4100);
+    assert_eq!(replay_step(&after(255), block(0), 9), Ok(next));
+    assert_eq!(
+        replay_step(&after(255), block(1), 9),
+        Err(refusal(14, 9, 0))
+    );
+    let full = state(Transfer::Open { last: None }, 0, u64::MAX);
+    assert_eq!(replay_step(&full, block(1), 9), Err(refusal(12, 0, 0)));
+    assert_eq!(
+        replay_step(&TransferState::default(), block(1), 9),
+        Err(refusal(13, 9, 0))
+    );
+}

@@ -5,6 +5,7 @@ use core::fmt;
 #[derive(Clone, Copy, Debug, PartialEq, Eq, Hash)]
 pub struct Refusal {
     /// From 1 to 12.
+    /// From 1 to 9, or from 10 to 15.
     pub number: u64,
     /// The first value, or 0. Of refusal 2 for a name that is not UTF-8: the length of its longest beginning that is.
     pub first: u64,
@@ -145,3 +146,55 @@ pub struct TroubleCode {
     /// Its third byte.
     pub low: u8,
 }
+
+/// Whether a recorded transfer is open.
+#[derive(Clone, Copy, Debug, Default, PartialEq, Eq, Hash)]
+pub enum Transfer {
+    /// It is closed, and has no last counter.
+    #[default]
+    Closed,
+    /// It is open; `last` is the counter of its last accepted block, where it has one.
+    Open {
+        /// The last counter.
+        last: Option<u8>,
+    },
+}
+
+/// The state of a recorded transfer. The first one is its default: closed, and all 0.
+#[derive(Clone, Copy, Debug, Default, PartialEq, Eq, Hash)]
+pub struct TransferState {
+    /// Open or closed.
+    pub transfer: Transfer,
+    /// How many repeats were counted, over the whole log.
+    pub repeats: u64,
+    /// How many bytes the new blocks have together, over the whole log.
+    pub total: u64,
+}
+
+/// A record of a log.
+#[derive(Clone, Copy, Debug, PartialEq, Eq, Hash)]
+pub struct LogRecord {
+    /// 0x38, 0x36 or 0x37.
+    pub service: u8,
+    /// The kind of an opening, or the counter of a block.
+    pub kind_or_counter: u8,
+    /// The payload length.
+    pub payload: u16,
+}
+
+/// Why a log was refused, and the state before the record that was refused.
+#[derive(Clone, Copy, Debug, PartialEq, Eq, Hash)]
+pub struct Stopped {
+    /// The refusal; its first value is the place of the record, or 0 where no record was run.
+    pub refusal: Refusal,
+    /// The state before that record.
+    pub state: TransferState,
+}
+
+impl fmt::Display for Stopped {
+    fn fmt(&self, f: &mut fmt::Formatter<'_>) -> fmt::Result {
+        self.refusal.fmt(f)
+    }
+}
+
+impl core::error::Error for Stopped {}
