@@ -2,19 +2,18 @@
 -- a refusal is the one after the records before it, a log in two pieces is run piece by piece, and a step adds no more than its record has.
 -- Assumes nothing.
 use mathlib.Core.Path.{_≡_, refl, sym, ap, subst, _∙_}
-use Prim.Native.Nat.{ℕ, zero, suc, _+_, _*_, _-_, _/_, _%_, _^_, _≤_, _<_}
+use Prim.Native.Nat.{ℕ, zero, suc, _+_, _*_, _/_, _%_, _^_, _≤_, _<_}
 use mathlib.Core.Bool.{Bool, true, false, not}
 use mathlib.Core.List.{List, [], _∷_, _++_}
 use native.Mathlib.Nat.{zero-add, suc-add}
-use native.Mathlib.Numerals.{add-one}
 use native.Mathlib.Omega.{arith}
-use borrow.Author.Tests.{eqb-true, eq-eqb, le-leb, lt-leb, lt-ltb}
-use lib.Dec.{leb, ltb, eqb}
-use lib.ListN.{length, getD, take, drop, length-append}
+use borrow.Author.Tests.{eqb-true, le-leb, lt-leb, lt-ltb}
+use lib.Dec.{leb, eqb}
+use lib.ListN.{length, take, drop, length-append}
 use lib.Seq.{length-take-le}
 use Rattle.paper.specs.Choice.{pick, both}
 use Rattle.paper.specs.Answer.{Refusal, cut, tooMany, Answer, accepted, refused, check}
-use Rattle.paper.specs.Replay.{LogRecord, logRecord, recordOf, recordsIn, recordsOf, Service, opening, block, closing, unknown, serviceOf, Last, none, counter, Transfer, closed, opened, State, state, start}
+use Rattle.paper.specs.Replay.{LogRecord, logRecord, recordsIn, recordsOf, Service, opening, block, closing, unknown, serviceOf, none, counter, Transfer, closed, opened, State, state, start}
 use Rattle.paper.specs.Replay.{opens, nextCounter, does, stepped, Ended, ran, stopped, after, runFrom, replayed, stateIn, goOn, acceptedOf, history, isBlock, isNew, isAgain, keep, chosen, nothingBefore, newBlocks, repeatedBlocks, payloads, within64}
 
 -- ---- one step

@@ -1,12 +1,12 @@
 -- Document 02, Req 04: what some logs answer, which of their blocks are new, and what the program prints of them, letter by letter, by computing the definitions.
 -- Assumes nothing.
 use mathlib.Core.Path.{_≡_, refl}
-use Prim.Native.Nat.{ℕ, zero, suc, _+_, _/_, _%_}
+use Prim.Native.Nat.{ℕ, zero, suc, _/_, _%_}
 use Prim.Native.String.{String}
-use mathlib.Core.List.{List, [], _∷_, _++_, map}
+use mathlib.Core.List.{List, [], _∷_, map}
 use lib.ListN.{length, replicate}
 use Rattle.paper.specs.Answer.{refusal}
-use Rattle.paper.specs.Replay.{logRecord, LogRecord, recordsIn, none, counter, closed, opened, state, stepped, Ended, ran, stopped, runFrom, replayed, history, chosen, newBlocks, repeatedBlocks, payloads, steppedOnce}
+use Rattle.paper.specs.Replay.{logRecord, recordsIn, none, counter, closed, opened, state, stepped, Ended, ran, stopped, runFrom, replayed, history, chosen, newBlocks, repeatedBlocks, payloads, steppedOnce}
 use Rattle.paper.specs.ReadingProgram.{decimalIn, decimal, ascii, textOf}
 use Rattle.paper.specs.ReplayProgram.{stateText, replayText}
 

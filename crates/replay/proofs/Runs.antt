@@ -1,8 +1,8 @@
 -- The run of a log, record by record: what its loop cites.
 -- Assumes nothing.
-use mathlib.Core.Path.{_≡_, refl, sym, ap, _∙_}
-use mathlib.Core.List.{List, [], _∷_}
-use Prim.Native.Nat.{ℕ, suc, _+_, _*_, _-_, _/_, _%_, _^_, _≤_, _<_}
+use mathlib.Core.Path.{_≡_, sym, ap, _∙_}
+use mathlib.Core.List.{List, _∷_}
+use Prim.Native.Nat.{ℕ, _+_, _*_, _-_, _/_, _%_, _^_, _≤_, _<_}
 use native.Mathlib.Nat.{sub-zero}
 use native.Mathlib.Omega.{arith}
 use native.Mathlib.Numerals.{add-one}
@@ -10,7 +10,7 @@ use borrow.Author.Tests.{lt-leb, le-leb, ne-eqb}
 use lib.ListN.{length, getD, drop}
 use lib.Seq.{drop-drop, getD-drop}
 use Rattle.paper.specs.Answer.{Refusal, Answer, accepted, refused, cut, tooMany}
-use Rattle.paper.specs.Replay.{LogRecord, logRecord, recordOf, recordsIn, State, start, Ended, ran, stopped, after, stepped, runFrom, replayed, within64}
+use Rattle.paper.specs.Replay.{LogRecord, logRecord, recordOf, recordsIn, State, start, ran, stopped, after, stepped, runFrom, replayed, within64}
 use Rattle.paper.proofs.Replay.{step-adds, step-exact}
 use Rattle.replay.specs.Replay.{stateOf, meant}
 use Rattle.replay.specs.declared.State as code

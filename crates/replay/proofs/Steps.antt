@@ -1,11 +1,11 @@
 -- What the paper's machine answers to one record, by cases, in terms of the code's state: what the returns of the step cite.
 -- Assumes nothing.
-use mathlib.Core.Path.{_≡_, refl, ap, _∙_}
+use mathlib.Core.Path.{_≡_, refl, _∙_}
 use mathlib.Core.Bool.{Bool, true, false, _||_}
 use Prim.Native.Nat.{ℕ, _+_, _^_, _≤_, _<_}
 use native.Mathlib.Omega.{arith}
 use borrow.Author.Tests.{lt-ltb, le-ltb, eq-eqb, ne-eqb}
-use lib.Dec.{eqb, ltb}
+use lib.Dec.{ltb}
 use Rattle.paper.specs.Choice.{both, either}
 use Rattle.paper.specs.Answer.{accepted, refused, tooMany, notAllowed, wrongCounter, unknownService}
 use Rattle.paper.specs.Replay as paper

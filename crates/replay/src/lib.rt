@@ -171,6 +171,7 @@ pub fn step(state: State, record: LogRecord, place: usize) -> StepAnswer
     StepAnswer::Refused(Refusal::UnknownService { place })
 }
 
+// A byte as a wider number.
 fn wide(b: u8) -> u16
     ensures { λ r. ⌜ (r ≡ b) × (r ≤ 255) ⌝ }
 {
