@@ -26,3 +26,5 @@ pub mod WrongLoads
 pub mod Chart
 pub mod Replay
 pub mod ReplayVectors
+pub mod Reason
+pub mod Why

@@ -96,7 +96,7 @@ good w g h = rw (le-leb 1 w g, le-leb w 16 h)
 
 -- ---- sizes
 -- the end of a beginning is the beginning of the end
-drop-take : (k n : ℕ) (s : List ℕ) → drop k (take (k + n) s) ≡ take n (drop k s)
+pub drop-take : (k n : ℕ) (s : List ℕ) → drop k (take (k + n) s) ≡ take n (drop k s)
 drop-take zero n s = ap (λ (m : ℕ). take m s) (zero-add n)
 drop-take (suc k) n [] = ap (drop (suc k)) (take-nil (suc k + n)) ∙ sym (take-nil n)
 drop-take (suc k) n (b ∷ s) = rw (suc-add k n) (drop-take k n s)

@@ -22,3 +22,5 @@ pub mod WrongLoads
 pub mod Chart
 pub mod Replay
 pub mod ReplayProgram
+pub mod Reason
+pub mod WhyProgram
