@@ -31,6 +31,10 @@ use Rattle.station.proofs.replays.skr_replay_log.Kinds as replay-log-ki
 use Rattle.station.proofs.replays.skr_replay_log.Reads as replay-log-reads
 use Rattle.station.proofs.replays.skr_replay_step.Kinds as replay-step-kinds
 use Rattle.station.proofs.replays.skr_replay_step.Reads as replay-step-reads
+use Rattle.station.proofs.why.skr_why_request.Kinds as why-request-kinds
+use Rattle.station.proofs.why.skr_why_request.Reads as why-request-reads
+use Rattle.station.proofs.why.skr_why_response.Kinds as why-response-kinds
+use Rattle.station.proofs.why.skr_why_response.Reads as why-response-reads
 use Rattle.station.proofs.transfer.skr_write_request as write-request
 use Rattle.station.proofs.transfer.skr_write_request.Kinds as write-request-kinds
 use Rattle.station.proofs.transfer.skr_write_request.Reads as write-request-reads
@@ -62,6 +66,12 @@ read-routine-request-determined κs a x y r₁ r₂ p q = p ∙ sym q
 
 pub read-routine-response-determined : Determined 1 read-routine-response-kinds.ps read-routine-response-kinds.r read-routine-response-reads.Post
 read-routine-response-determined κs a x y r₁ r₂ p q = p ∙ sym q
+
+pub why-request-determined : Determined 1 why-request-kinds.ps why-request-kinds.r why-request-reads.Post
+why-request-determined κs a x y r₁ r₂ p q = p ∙ sym q
+
+pub why-response-determined : Determined 1 why-response-kinds.ps why-response-kinds.r why-response-reads.Post
+why-response-determined κs a x y r₁ r₂ p q = p ∙ sym q
 
 pub desk-check-determined : Determined 1 desk-check-kinds.ps desk-check-kinds.r desk-check-reads.Post
 desk-check-determined κs a x y r₁ r₂ p q = p ∙ sym q

@@ -1,3 +1,4 @@
 pub mod Records
 pub mod Flat
 pub mod Handed
+pub mod Why

@@ -6,3 +6,4 @@ pub mod routine;
 pub mod sheet;
 pub mod transfer;
 pub mod trouble;
+pub mod why;
