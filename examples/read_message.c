@@ -1,4 +1,4 @@
-/* Reads a file transfer request from a file, and has the desk judge it: a line about each.
+/* Reads a file transfer request from a file, tells why where it is refused, and has the desk judge it: a line about each.
  *
  *     tools/library
  *     cc -Iinclude examples/read_message.c target/staticlib/libstation.a -o read_message
@@ -23,14 +23,18 @@ static void print_size(const char *what, uint64_t high, uint64_t low) {
         printf(", %s 0x%" PRIx64 "%016" PRIx64, what, high, low);
 }
 
+static const char *const fields[] = {"", "mode", "name", "format byte", "size group", "block length", "position"};
+
 static void print_refusal(uint64_t number, uint64_t first, uint64_t second) {
-    printf("refused %" PRIu64 " %" PRIu64 " %" PRIu64 "\n", number, first, second);
+    printf("refused %" PRIu64 " %" PRIu64 " %" PRIu64, number, first, second);
 }
 
 static void print_request(const uint8_t *message, size_t len) {
     skr_file_transfer r = skr_read_request(message, len);
     if (r.number != 0) {
-        print_refusal(r.number, r.first, r.second);
+        skr_why why = skr_why_request(message, len);
+        print_refusal(why.number, why.first, why.second);
+        printf(": %s at %" PRIu64 "\n", fields[why.field], why.offset);
         return;
     }
     printf("%s of \"", kinds[r.kind]);
@@ -58,8 +62,9 @@ int main(int count, char **words) {
     skr_desk desk = skr_desk_check(message, len);
     printf("desk: ");
     if (desk.number == 0)
-        puts("passes");
+        printf("passes");
     else
         print_refusal(desk.number, desk.first, desk.second);
+    printf("\n");
     return desk.number != 0;
 }

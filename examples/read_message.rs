@@ -1,10 +1,10 @@
-//! Reads a file transfer request from a file, and has the desk judge it: what read_message.c does, in Rust.
+//! Reads a file transfer request from a file, tells why where it is refused, and has the desk judge it: what read_message.c does, in Rust.
 //!
 //!     tools/library
 //!     cd rust && cargo run --release --offline --example read_message FILE
 //!
 //! The exit status is 0 where the desk passes the request, 1 where it is refused, and 2 where the file cannot be read.
-use skrolvind::{Request, desk_check, read_request};
+use skrolvind::{Refusal, Request, desk_check, read_request, why_request};
 use std::env;
 use std::fs;
 use std::process::ExitCode;
@@ -22,6 +22,14 @@ fn told(request: &Request, tail: &[u8]) -> String {
     )
 }
 
+/// Number and values alone, as the example in C prints them; `{refusal}` would add what it means.
+fn numbers(refusal: &Refusal) -> String {
+    format!(
+        "refused {} {} {}",
+        refusal.number, refusal.first, refusal.second
+    )
+}
+
 fn main() -> ExitCode {
     let words: Vec<_> = env::args_os().collect();
     let message = match &words[..] {
@@ -32,9 +40,12 @@ fn main() -> ExitCode {
         eprintln!("usage: read_message FILE");
         return ExitCode::from(2);
     };
-    match read_request(&message) {
-        Ok((request, tail)) => println!("{}", told(&request, tail)),
-        Err(refusal) => println!("{refusal}"),
+    if let Ok((request, tail)) = read_request(&message) {
+        println!("{}", told(&request, tail));
+    }
+    if let Err(why) = why_request(&message) {
+        let refused = numbers(&why.refusal);
+        println!("{refused}: {} at {}", why.field, why.offset);
     }
     match desk_check(&message) {
         Ok(()) => {
@@ -42,7 +53,7 @@ fn main() -> ExitCode {
             ExitCode::SUCCESS
         }
         Err(refusal) => {
-            println!("desk: {refusal}");
+            println!("desk: {}", numbers(&refusal));
             ExitCode::from(1)
         }
     }

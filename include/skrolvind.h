@@ -48,6 +48,14 @@ typedef struct {
     uint64_t number, first, second;
 } skr_desk;
 
+/* Why a file transfer message is refused. `field` is the field that stopped it: 1 mode, 2 name, 3 format byte, 4 size group,
+ * 5 block length, 6 position, and 0 where the message is accepted. `offset` is where that field begins in the message: a name
+ * at the two bytes of its length, sizes at their width, a block length at its count. */
+typedef struct {
+    uint64_t number, first, second;
+    uint64_t field, offset;
+} skr_why;
+
 /* A trouble code. */
 typedef struct {
     uint64_t number, first, second;
@@ -115,6 +123,13 @@ skr_written skr_rewrite_response(const uint8_t *message, size_t message_len, uin
 
 /* Judges one request at the desk: the reader's refusals, then 9 for bytes left over, then 8 for unequal sizes under format 0x00. */
 skr_desk skr_desk_check(const uint8_t *message, size_t message_len);
+
+/* Why a file transfer request is refused: the first check that fails. Every check that comes before it passes. Bytes left over
+ * are no reason. */
+skr_why skr_why_request(const uint8_t *message, size_t message_len);
+
+/* Why a file transfer response is refused, likewise. */
+skr_why skr_why_response(const uint8_t *message, size_t message_len);
 
 /* The length of the longest beginning of the name that is UTF-8. */
 uint64_t skr_valid_up_to(const uint8_t *name, size_t name_len);

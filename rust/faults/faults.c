@@ -1,4 +1,4 @@
-/* One fault at a time in front of the library, to see that the comparison finds it: SKROLVIND_FAULT is its number, 1 to 56; with 0 there is none.
+/* One fault at a time in front of the library, to see that the comparison finds it: SKROLVIND_FAULT is its number, 1 to 60; with 0 there is none.
  * Each function calls the library's own, which `try` has given the prefix real_, and spoils the answer. `try` counts the lines that have FAULT ==. */
 #include <stdlib.h>
 #include <string.h>
@@ -115,6 +115,18 @@ DOOR(skr_desk, skr_desk_check, (const uint8_t *m, size_t n),
      if (FAULT == 46 && d.number == 8 && r.compressed_low == r.uncompressed_low) d.number = 0; /* sizes are compared by the low half */
      if (FAULT == 44 && d.number == 2) d.first = 0;                     /* the desk does not pass up where the name goes bad */
      return d;)
+
+DOOR(skr_why, skr_why_request, (const uint8_t *m, size_t n),
+     skr_why w = real_skr_why_request(m, n);
+     if (FAULT == 57 && w.field == 2) w.offset = 3;                     /* the name is said to begin at its letters */
+     if (FAULT == 58 && n && (m[0] == 0 || m[0] > 6)) { w.number = 3; w.first = m[0]; w.second = 0; w.field = 1; w.offset = 0; } /* an unknown mode is told before the name is judged */
+     return w;)
+
+DOOR(skr_why, skr_why_response, (const uint8_t *m, size_t n),
+     skr_why w = real_skr_why_response(m, n);
+     if (FAULT == 59 && w.field == 4 && w.number == 6) w.offset -= 1;   /* a bad width is told at the format byte */
+     if (FAULT == 60 && n == 1 && m[0] == 2) { w.number = 1; w.first = 1; w.field = 5; w.offset = 1; } /* a reason for a response that is accepted */
+     return w;)
 
 DOOR(uint64_t, skr_valid_up_to, (const uint8_t *m, size_t n),
      uint64_t v = real_skr_valid_up_to(m, n);

@@ -20,6 +20,7 @@ mod rng;
 mod sheets;
 mod sweep;
 mod tally;
+mod why;
 mod write;
 
 use bench::Bench;

@@ -63,6 +63,18 @@ fn readers(bench: &mut Bench) {
     );
     reader(
         bench,
+        Call::WhyRequest,
+        unsafe { c::skr_why_request(null, 0) },
+        flat::why_request(none),
+    );
+    reader(
+        bench,
+        Call::WhyResponse,
+        unsafe { c::skr_why_response(null, 0) },
+        flat::why_response(none),
+    );
+    reader(
+        bench,
         Call::ValidUpTo,
         unsafe { c::skr_valid_up_to(null, 0) },
         flat::valid_up_to(none),

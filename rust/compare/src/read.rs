@@ -18,6 +18,7 @@ impl Bench {
             bench.rewritten_response(message);
             bench.routine_request(message);
             bench.routine_response(message);
+            bench.why(message);
         });
     }
 

@@ -29,8 +29,8 @@ const QUOTAS: [(usize, [usize; 2]); 5] = [
 /// What stands in a room before the call.
 const FILLER: u8 = 0xAA;
 /// The letters of the calls; the answers of the desk and of the tally are not the original's.
-const LETTERS: [char; 17] = [
-    'A', 'B', 'C', 'D', 'E', 'F', 'G', 'H', 'I', 'J', '-', 'K', 'L', 'M', '-', '-', '-',
+const LETTERS: [char; 19] = [
+    'A', 'B', 'C', 'D', 'E', 'F', 'G', 'H', 'I', 'J', '-', 'K', 'L', 'M', '-', '-', '-', '-', '-',
 ];
 /// Refusals, of which the original's run up to 5, and then the kinds of what was accepted, up to 6.
 const ACCEPTED: usize = 6;

@@ -21,9 +21,11 @@ pub enum Call {
     TallyRecords,
     ReplayLog,
     ReplayStep,
+    WhyRequest,
+    WhyResponse,
 }
 
-const CALLS: [&str; 17] = [
+const CALLS: [&str; 19] = [
     "requests read",
     "responses read",
     "routine requests read",
@@ -41,6 +43,8 @@ const CALLS: [&str; 17] = [
     "sheets of records tallied",
     "logs of transfers run",
     "records of transfers run",
+    "reasons of requests",
+    "reasons of responses",
 ];
 
 /// What no door leads to, in the order of the letters that the recorded list has for it.
@@ -118,9 +122,10 @@ pub enum Rule {
     Desk,
     Sheet,
     Replay,
+    Why,
 }
 
-const RULES: [&str; 11] = [
+const RULES: [&str; 12] = [
     "size width 0 or 17 up: refusal 6 with the width",
     "routine request refused with 4: the byte is the low seven bits",
     "too little room: refusal 7, and nothing is written",
@@ -132,6 +137,7 @@ const RULES: [&str; 11] = [
     "desk check: ours, as document 02 has it",
     "sheet of records: ours, as document 02 has it",
     "recorded transfers: ours, as document 02 has them",
+    "why a message is refused: document 02's",
 ];
 
 impl Rule {

@@ -55,6 +55,17 @@ pub struct Desk {
     pub second: u64,
 }
 
+/// Why a file transfer message is refused: the field that stopped it, 0 where none did, and where it begins.
+#[repr(C)]
+#[derive(Clone, Copy, Debug, Default, PartialEq, Eq)]
+pub struct Why {
+    pub number: u64,
+    pub first: u64,
+    pub second: u64,
+    pub field: u64,
+    pub offset: u64,
+}
+
 /// A trouble code.
 #[repr(C)]
 #[derive(Clone, Copy, Debug, Default, PartialEq, Eq)]
@@ -130,7 +141,7 @@ impl Sizes {
 /// The C functions themselves, over pointers: for those who have to hand over what no slice can be.
 pub mod c {
     use super::{
-        Desk, FileTransfer, NextTroubleCode, Replay, Routine, Tally, TroubleCode, Written,
+        Desk, FileTransfer, NextTroubleCode, Replay, Routine, Tally, TroubleCode, Why, Written,
     };
 
     unsafe extern "C" {
@@ -193,6 +204,8 @@ pub mod c {
             room_len: usize,
         ) -> Written;
         pub fn skr_desk_check(message: *const u8, message_len: usize) -> Desk;
+        pub fn skr_why_request(message: *const u8, message_len: usize) -> Why;
+        pub fn skr_why_response(message: *const u8, message_len: usize) -> Why;
         pub fn skr_valid_up_to(name: *const u8, name_len: usize) -> u64;
         pub safe fn skr_dtc_from_number(number: u32) -> TroubleCode;
         pub fn skr_dtc_next(buffer: *const u8, buffer_len: usize) -> NextTroubleCode;
@@ -324,6 +337,22 @@ pub fn rewrite_response(message: &[u8], room: &mut [u8]) -> Written {
 pub fn desk_check(message: &[u8]) -> Desk {
     // SAFETY: the pointer and the length are those of one slice.
     unsafe { c::skr_desk_check(message.as_ptr(), message.len()) }
+}
+
+/// `skr_why_request`.
+#[must_use]
+#[inline]
+pub fn why_request(message: &[u8]) -> Why {
+    // SAFETY: the pointer and the length are those of one slice.
+    unsafe { c::skr_why_request(message.as_ptr(), message.len()) }
+}
+
+/// `skr_why_response`.
+#[must_use]
+#[inline]
+pub fn why_response(message: &[u8]) -> Why {
+    // SAFETY: the pointer and the length are those of one slice.
+    unsafe { c::skr_why_response(message.as_ptr(), message.len()) }
 }
 
 /// `skr_valid_up_to`.

@@ -1,7 +1,8 @@
 //! The calls that read and judge.
 use crate::flat;
 use crate::{
-    Kind, Refusal, Request, Response, RoutineRequest, RoutineResponse, SubFunction, TroubleCode,
+    Field, Kind, Reason, Refusal, Request, Response, RoutineRequest, RoutineResponse, SubFunction,
+    TroubleCode,
 };
 
 /// What the first three numbers of every record say.
@@ -125,6 +126,33 @@ pub fn read_routine_response(message: &[u8]) -> Result<RoutineResponse<'_>, Refu
 pub fn desk_check(message: &[u8]) -> Result<(), Refusal> {
     let r = flat::desk_check(message);
     accepted(r.number, r.first, r.second)
+}
+
+/// Why a file transfer request is refused. What is left over after it is no reason.
+///
+/// # Errors
+/// The refusals of [`read_request`], each with the field that stopped the message and where that begins.
+#[inline]
+pub fn why_request(message: &[u8]) -> Result<(), Reason> {
+    reason(flat::why_request(message))
+}
+
+/// Why a file transfer response is refused.
+///
+/// # Errors
+/// The refusals of [`read_response`], likewise.
+#[inline]
+pub fn why_response(message: &[u8]) -> Result<(), Reason> {
+    reason(flat::why_response(message))
+}
+
+#[inline]
+fn reason(r: flat::Why) -> Result<(), Reason> {
+    accepted(r.number, r.first, r.second).map_err(|refusal| Reason {
+        refusal,
+        field: Field::from_number(r.field).expect("the library answers one of the six fields"),
+        offset: as_small(r.offset),
+    })
 }
 
 /// The length of the longest beginning of the name that is UTF-8.

@@ -363,3 +363,71 @@ fn a_transfer_followed_while_it_runs() {
         Err(refusal(13, 9, 0))
     );
 }
+
+fn reason(field: Field, offset: usize, number: u64, first: u64, second: u64) -> Result<(), Reason> {
+    Err(Reason {
+        refusal: refusal(number, first, second),
+        field,
+        offset,
+    })
+}
+
+#[test]
+fn why_requests_are_refused() {
+    for (message, wanted) in [
+        (&[][..], reason(Field::Mode, 0, 1, 1, 0)),
+        (&[1, 0], reason(Field::Name, 1, 1, 2, 1)),
+        (&[7, 0, 2, 0x61], reason(Field::Name, 1, 1, 4, 3)),
+        (&[7, 0, 2, 0x61, 0xFF], reason(Field::Name, 1, 2, 1, 0)),
+        (&[7, 0, 1, 0x61], reason(Field::Mode, 0, 3, 7, 0)),
+        (&[4, 0, 0], reason(Field::FormatByte, 3, 1, 1, 0)),
+        (&[1, 0, 0, 0x11], reason(Field::SizeGroup, 4, 1, 1, 0)),
+        (&[1, 0, 0, 0x11, 2, 9], reason(Field::SizeGroup, 4, 1, 5, 2)),
+        (&[1, 0, 0, 0x11, 0], reason(Field::SizeGroup, 4, 6, 0, 0)),
+        (&[2, 0, 0], Ok(())),
+        (&[2, 0, 0, 0x5A], Ok(())),
+    ] {
+        assert_eq!(why_request(message), wanted);
+        assert_eq!(
+            read_request(message).map(|_| ()).err(),
+            wanted.err().map(|r| r.refusal)
+        );
+    }
+}
+
+#[test]
+fn why_responses_are_refused() {
+    for (message, wanted) in [
+        (&[][..], reason(Field::Mode, 0, 1, 1, 0)),
+        (&[7], reason(Field::Mode, 0, 3, 7, 0)),
+        (&[1], reason(Field::BlockLength, 1, 1, 1, 0)),
+        (&[1, 2, 0x10], reason(Field::BlockLength, 1, 1, 3, 2)),
+        (&[1, 1, 0x10], reason(Field::FormatByte, 3, 1, 1, 0)),
+        (&[4, 0, 0, 0], reason(Field::SizeGroup, 3, 1, 2, 1)),
+        (&[5, 0, 0, 1, 0, 9], reason(Field::SizeGroup, 3, 1, 258, 3)),
+        (&[5, 0, 0, 0, 0], reason(Field::SizeGroup, 3, 6, 0, 0)),
+        (&[6, 1, 0x10, 0, 9, 9], reason(Field::Position, 4, 1, 8, 2)),
+        (&[2], Ok(())),
+    ] {
+        assert_eq!(why_response(message), wanted);
+        assert_eq!(
+            read_response(message).map(|_| ()).err(),
+            wanted.err().map(|r| r.refusal)
+        );
+    }
+}
+
+#[test]
+fn a_refusal_and_a_reason_print_their_meaning() {
+    let cut = refusal(1, 4, 3);
+    let text = "refused 1 4 3: a field has fewer bytes than it needs";
+    assert_eq!(std::format!("{cut}"), text);
+    let why = why_request(&[7, 0, 2, 0x61]).unwrap_err();
+    assert_eq!(std::format!("{why}"), std::format!("name at 1: {text}"));
+    // each number has a meaning of its own
+    let mut meanings: Vec<_> = (0..=15).map(|n| refusal(n, 0, 0).meaning()).collect();
+    assert_eq!(meanings[0], refusal(99, 0, 0).meaning());
+    meanings.sort_unstable();
+    meanings.dedup();
+    assert_eq!(meanings.len(), 16);
+}

@@ -4,8 +4,7 @@ use core::fmt;
 /// Why a call was refused: the number of the refusal (`docs/REFUSALS.md` says what each one means) and the two values that it carries.
 #[derive(Clone, Copy, Debug, PartialEq, Eq, Hash)]
 pub struct Refusal {
-    /// From 1 to 12.
-    /// From 1 to 9, or from 10 to 15.
+    /// From 1 to 9 for what document 01 has, and from 10 up for document 02.
     pub number: u64,
     /// The first value, or 0. Of refusal 2 for a name that is not UTF-8: the length of its longest beginning that is.
     pub first: u64,
@@ -13,13 +12,111 @@ pub struct Refusal {
     pub second: u64,
 }
 
+impl Refusal {
+    /// What the number means, in a few words.
+    #[must_use]
+    pub const fn meaning(&self) -> &'static str {
+        match self.number {
+            1 => "a field has fewer bytes than it needs",
+            2 => "the name is not UTF-8, or something is too long",
+            3 => "no file operation has this number",
+            4 => "no routine sub-function has this number",
+            5 => "no trouble code has this number",
+            6 => "a size is 1 to 16 bytes wide",
+            7 => "the room is smaller than the message",
+            8 => "the sizes differ though the file is not packed",
+            9 => "bytes are left over",
+            10 => "the last record is cut",
+            11 => "a field of a record is out of its range",
+            12 => "there are more records than are taken",
+            13 => "this step is not allowed here",
+            14 => "a block has the wrong counter",
+            15 => "no transfer has this service byte",
+            _ => "this number is not known here",
+        }
+    }
+}
+
+/// `refused N A B: ` and the meaning.
 impl fmt::Display for Refusal {
     fn fmt(&self, f: &mut fmt::Formatter<'_>) -> fmt::Result {
-        write!(f, "refused {} {} {}", self.number, self.first, self.second)
+        let meaning = self.meaning();
+        write!(
+            f,
+            "refused {} {} {}: {meaning}",
+            self.number, self.first, self.second
+        )
     }
 }
 
 impl core::error::Error for Refusal {}
+
+/// The fields of a file transfer message.
+#[derive(Clone, Copy, Debug, PartialEq, Eq, Hash)]
+#[repr(u8)]
+pub enum Field {
+    /// The mode byte.
+    Mode = 1,
+    /// The name of a request, with its length.
+    Name = 2,
+    /// The format byte.
+    FormatByte = 3,
+    /// The sizes, with their width.
+    SizeGroup = 4,
+    /// The block length of a response, with its count.
+    BlockLength = 5,
+    /// The position of a response.
+    Position = 6,
+}
+
+impl Field {
+    /// The field that has this number.
+    #[must_use]
+    pub const fn from_number(number: u64) -> Option<Self> {
+        match number {
+            1 => Some(Self::Mode),
+            2 => Some(Self::Name),
+            3 => Some(Self::FormatByte),
+            4 => Some(Self::SizeGroup),
+            5 => Some(Self::BlockLength),
+            6 => Some(Self::Position),
+            _ => None,
+        }
+    }
+}
+
+impl fmt::Display for Field {
+    fn fmt(&self, f: &mut fmt::Formatter<'_>) -> fmt::Result {
+        f.write_str(match self {
+            Self::Mode => "mode",
+            Self::Name => "name",
+            Self::FormatByte => "format byte",
+            Self::SizeGroup => "size group",
+            Self::BlockLength => "block length",
+            Self::Position => "position",
+        })
+    }
+}
+
+/// Why a file transfer message is refused: every check that document 01 puts before this one passes.
+#[derive(Clone, Copy, Debug, PartialEq, Eq, Hash)]
+pub struct Reason {
+    /// What reading the message answers.
+    pub refusal: Refusal,
+    /// The field that stopped it.
+    pub field: Field,
+    /// Where in the message that field begins.
+    pub offset: usize,
+}
+
+/// `FIELD at OFFSET: `, the refusal and its meaning.
+impl fmt::Display for Reason {
+    fn fmt(&self, f: &mut fmt::Formatter<'_>) -> fmt::Result {
+        write!(f, "{} at {}: {}", self.field, self.offset, self.refusal)
+    }
+}
+
+impl core::error::Error for Reason {}
 
 /// The six kinds of file transfer.
 #[derive(Clone, Copy, Debug, PartialEq, Eq, Hash)]
