@@ -5,8 +5,8 @@
  *
  * Every record begins with three numbers: 0, 0, 0 where the call was accepted, else the number of the refusal and the two
  * values that it carries (docs/REFUSALS.md). After a refusal every other field is 0, but for the state of a recorded
- * transfer, which stands beside a refusal too. A kind or a sub-function that does not exist is refused before anything else
- * is looked at.
+ * transfer, and for the field and the offset where it is asked why a message is refused. A kind or a sub-function that does
+ * not exist is refused before anything else is looked at.
  *
  * Refusal 2 for a name that is not UTF-8 says where the name goes bad: `first` is the length, in bytes of the name, of its
  * longest beginning that is UTF-8 (what skr_valid_up_to answers). For whatever is too long it is 0.

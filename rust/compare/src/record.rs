@@ -28,7 +28,7 @@ const QUOTAS: [(usize, [usize; 2]); 5] = [
 ];
 /// What stands in a room before the call.
 const FILLER: u8 = 0xAA;
-/// The letters of the calls; the answers of the desk and of the tally are not the original's.
+/// The letters of the calls; those of the desk, of sheets, of logs and of reasons are not the original's, and have none.
 const LETTERS: [char; 19] = [
     'A', 'B', 'C', 'D', 'E', 'F', 'G', 'H', 'I', 'J', '-', 'K', 'L', 'M', '-', '-', '-', '-', '-',
 ];
