@@ -24,3 +24,4 @@ pub mod Replay
 pub mod ReplayProgram
 pub mod Reason
 pub mod WhyProgram
+pub mod Batch
