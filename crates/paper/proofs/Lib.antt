@@ -28,3 +28,5 @@ pub mod Replay
 pub mod ReplayVectors
 pub mod Reason
 pub mod Why
+pub mod Batch
+pub mod BatchVectors

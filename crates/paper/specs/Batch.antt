@@ -1,9 +1,10 @@
 -- Document 02, Req 08: a morning's messages in one call. The archive keeps a buffer of messages and a list of their lengths.
-use Prim.Native.Nat.{ℕ}
+use Prim.Native.Nat.{ℕ, _≤_, _<_}
+use mathlib.Core.Path.{_≡_}
 use mathlib.Core.List.{List, [], _∷_, _++_, map}
 use lib.ListN.{length, getD, take, drop}
 use lib.Dec.{leb, eqb}
-use Rattle.paper.specs.Answer.{cut, tooMany, Answer, accepted, refused, check, Written, written}
+use Rattle.paper.specs.Answer.{Refusal, cut, tooMany, Answer, accepted, refused, check, Written, written}
 use Rattle.paper.specs.Request.{readRequest}
 use Rattle.paper.specs.Tally.{sum}
 
@@ -44,3 +45,16 @@ readBatch buffer lengths list = written (batchNumbers buffer lengths) list
 -- message k by its place: the lengths before it added up
 abbrev pub messageAt : (buffer lengths : List ℕ) → ℕ → List ℕ
 messageAt buffer lengths k = take (getD lengths k 0) (drop (sum (take k lengths)) buffer)
+
+-- entry for entry a batch equals reading its messages one by one.
+-- `Answers buffer lengths old a new`: whoever was lent the buffer, the lengths and a list that held `old` answered a, and left the list holding `new`
+pub record EntryForEntry (Answers : (buffer lengths old : List ℕ) → Answer ℕ → List ℕ → Type 0) : Type 0 where
+  -- the answer is the count of the messages, and the list has an entry for each
+  pub count : {buffer lengths old new : List ℕ} {n : ℕ} → Answers buffer lengths old (accepted n) new → (n ≡ length lengths) × (n ≤ length new)
+  -- entry k is the refusal number of reading message k by itself
+  pub entry : {buffer lengths old new : List ℕ} {n : ℕ} → Answers buffer lengths old (accepted n) new → (k : ℕ) → k < n → getD new k 0 ≡ numberOf (messageAt buffer lengths k)
+  -- entries beyond the count stay as before, and the list as long
+  pub beyond : {buffer lengths old new : List ℕ} {n : ℕ} → Answers buffer lengths old (accepted n) new → (k : ℕ) → n ≤ k → getD new k 0 ≡ getD old k 0
+  pub same-length : {buffer lengths old new : List ℕ} {n : ℕ} → Answers buffer lengths old (accepted n) new → length new ≡ length old
+  -- refused, the list is untouched
+  pub untouched : {buffer lengths old new : List ℕ} {e : Refusal} → Answers buffer lengths old (refused e) new → new ≡ old
