@@ -1,7 +1,8 @@
 /* Skrolvind for C: the functions of crate `station`, each proved to do what its contract says on every input.
  *
  * A slice is a pointer and then a length; an empty slice may have any pointer. No function keeps a pointer, and no
- * function but a writer changes a byte of what it is lent. Two slices that are lent to one call must not overlap.
+ * function but a writer, or one that fills a list, changes a byte of what it is lent. Two slices that are lent to one call
+ * must not overlap.
  *
  * Every record begins with three numbers: 0, 0, 0 where the call was accepted, else the number of the refusal and the two
  * values that it carries (docs/REFUSALS.md). After a refusal every other field is 0, but for the state of a recorded
@@ -47,6 +48,9 @@ typedef struct {
 typedef struct {
     uint64_t number, first, second;
 } skr_desk;
+
+/* What is answered to a batch of messages: the three numbers and nothing more. */
+typedef skr_desk skr_batch;
 
 /* Why a file transfer message is refused. `field` is the field that stopped it: 1 mode, 2 name, 3 format byte, 4 size group,
  * 5 block length, 6 position, and 0 where the message is accepted. `offset` is where that field begins in the message: a name
@@ -144,6 +148,14 @@ skr_next_trouble_code skr_dtc_next(const uint8_t *buffer, size_t buffer_len);
  * request, 1 response), refusal number (0 to 9), and the coach number in four. Refusals: 12 for more than 65,536 whole records,
  * then 10 where records_len is no multiple of 8, then 11 with the place (from 0) of the first record with a field out of range. */
 skr_tally skr_tally_records(const uint8_t *records, size_t records_len);
+
+/* Reads a morning's requests in one call: the buffer has the messages one after the other, `lengths` how long each one is, and a
+ * length of 0 is an empty message. Entry k of the list becomes the refusal number of message k, 0 where it is accepted: what
+ * skr_read_request answers to it alone, so that bytes left over within a message are no refusal. Entries from lengths_len on stay
+ * as they were. Refusals, each of which leaves the list untouched: 12 for more than 4,096 messages, then 10 where the lengths do
+ * not add up to buffer_len exactly, then 7 where the list has fewer entries than there are messages (needed, list_len). */
+skr_batch skr_read_batch(const uint8_t *buffer, size_t buffer_len, const uint32_t *lengths, size_t lengths_len,
+                         uint8_t *list, size_t list_len);
 
 /* Runs a log of records of 4 bytes (service, kind or block counter, payload length high first) through the rules, from a state
  * that is closed and all 0. 12 for more than 65,536 records, then 10 for a cut last one, both with that first state; then the

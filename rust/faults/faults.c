@@ -1,4 +1,4 @@
-/* One fault at a time in front of the library, to see that the comparison finds it: SKROLVIND_FAULT is its number, 1 to 60; with 0 there is none.
+/* One fault at a time in front of the library, to see that the comparison finds it: SKROLVIND_FAULT is its number, 1 to 65; with 0 there is none.
  * Each function calls the library's own, which `try` has given the prefix real_, and spoils the answer. `try` counts the lines that have FAULT ==. */
 #include <stdlib.h>
 #include <string.h>
@@ -168,4 +168,16 @@ DOOR(skr_replay, skr_replay_step,
      skr_replay r = real_skr_replay_step(o, h, l, p, t, s, k, b, i);
      if (FAULT == 55 && r.number == 0 && !r.open && h) { r.has_last = 1; r.last = l; } /* the last counter is kept once closed */
      if (FAULT == 56 && r.number == 12) { r.number = 0; r.total += b; } /* a total is cut to 64 bits */
+     return r;)
+
+DOOR(skr_batch, skr_read_batch, (const uint8_t *m, size_t n, const uint32_t *k, size_t c, uint8_t *list, size_t room),
+     skr_batch r = real_skr_read_batch(m, n, k, c, list, room);
+     uint32_t sum = 0;
+     for (size_t i = 0; i < c; i++) sum += k[i];
+     size_t at = 0;
+     if (FAULT == 61 && !r.number) memset(list + c, 0, room - c);       /* entries beyond the count are zeroed */
+     if (FAULT == 62 && r.number == 10 && sum == (uint32_t)n) r.number = 0; /* lengths are added up in 32 bits */
+     if (FAULT == 63 && r.number == 10 && room < c) { r.number = 7; r.first = c; r.second = room; } /* 7 before 10 */
+     if (FAULT == 64 && r.number == 7) memset(list, 0, room);           /* the list is filled before 7 is judged */
+     if (FAULT == 65 && !r.number) for (size_t i = 0; i < c; at += k[i++]) list[i] = (uint8_t)real_skr_desk_check(m + at, k[i]).number; /* the desk check in place of the reader */
      return r;)

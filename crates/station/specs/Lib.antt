@@ -2,3 +2,4 @@ pub mod Records
 pub mod Flat
 pub mod Handed
 pub mod Why
+pub mod Batches

@@ -2,6 +2,7 @@
 //!
 //! Each answer is looked at three times: the library's record, the binding's result, and a plain model of document 01, all beside
 //! the original's answer. Where document 01 lists an exception, its own rule takes the original's place, and that is counted apart.
+mod batch;
 mod bench;
 mod desk;
 mod expected;
@@ -66,6 +67,8 @@ fn main() {
     step(b, "logs of up to 5 chosen records", replays::short_logs);
     step(b, "every record after each state", replays::every_record);
     step(b, "long logs", replays::long_logs);
+    step(b, "batches of short messages", batch::short);
+    step(b, "batches at their bounds", batch::bounds);
     if !arguments.quick {
         step(b, "all messages of up to 3 bytes", sweep::short_messages);
         step(b, "messages of 4 to 7 chosen bytes", sweep::chosen_messages);
@@ -94,9 +97,12 @@ fn save(path: &str, recorder: &Recorder) {
 fn random_rounds(bench: &mut Bench, seed: u64, end: Instant) {
     // logs are drawn by numbers of their own, so that the recorded answers stay as they are
     let (mut rng, mut logs) = (Rng::new(seed), Rng::new(!seed));
+    // and so are batches
+    let mut batches = Rng::new(seed.rotate_left(32));
     loop {
         random::round(bench, &mut rng);
         replays::round(bench, &mut logs);
+        batch::round(bench, &mut batches);
         if let Some(recorder) = &mut bench.recorder {
             recorder.end();
         }

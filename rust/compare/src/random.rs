@@ -101,7 +101,7 @@ fn message(rng: &mut Rng, most: usize) -> Vec<u8> {
     }
 }
 
-fn request(rng: &mut Rng, most: usize) -> Vec<u8> {
+pub fn request(rng: &mut Rng, most: usize) -> Vec<u8> {
     let name = name(rng, most);
     request_of(rng, &name)
 }

@@ -23,9 +23,10 @@ pub enum Call {
     ReplayStep,
     WhyRequest,
     WhyResponse,
+    ReadBatch,
 }
 
-const CALLS: [&str; 19] = [
+const CALLS: [&str; 20] = [
     "requests read",
     "responses read",
     "routine requests read",
@@ -45,6 +46,7 @@ const CALLS: [&str; 19] = [
     "records of transfers run",
     "reasons of requests",
     "reasons of responses",
+    "batches of requests read",
 ];
 
 /// What no door leads to, in the order of the letters that the recorded list has for it.
@@ -123,9 +125,10 @@ pub enum Rule {
     Sheet,
     Replay,
     Why,
+    Batch,
 }
 
-const RULES: [&str; 12] = [
+const RULES: [&str; 13] = [
     "size width 0 or 17 up: refusal 6 with the width",
     "routine request refused with 4: the byte is the low seven bits",
     "too little room: refusal 7, and nothing is written",
@@ -138,6 +141,7 @@ const RULES: [&str; 12] = [
     "sheet of records: ours, as document 02 has it",
     "recorded transfers: ours, as document 02 has them",
     "why a message is refused: document 02's",
+    "batches of messages: ours, as document 02 has them",
 ];
 
 impl Rule {

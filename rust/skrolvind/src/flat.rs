@@ -55,6 +55,9 @@ pub struct Desk {
     pub second: u64,
 }
 
+/// What is answered to a batch of messages: the three numbers and nothing more.
+pub type Batch = Desk;
+
 /// Why a file transfer message is refused: the field that stopped it, 0 where none did, and where it begins.
 #[repr(C)]
 #[derive(Clone, Copy, Debug, Default, PartialEq, Eq)]
@@ -141,7 +144,8 @@ impl Sizes {
 /// The C functions themselves, over pointers: for those who have to hand over what no slice can be.
 pub mod c {
     use super::{
-        Desk, FileTransfer, NextTroubleCode, Replay, Routine, Tally, TroubleCode, Why, Written,
+        Batch, Desk, FileTransfer, NextTroubleCode, Replay, Routine, Tally, TroubleCode, Why,
+        Written,
     };
 
     unsafe extern "C" {
@@ -210,6 +214,14 @@ pub mod c {
         pub safe fn skr_dtc_from_number(number: u32) -> TroubleCode;
         pub fn skr_dtc_next(buffer: *const u8, buffer_len: usize) -> NextTroubleCode;
         pub fn skr_tally_records(records: *const u8, records_len: usize) -> Tally;
+        pub fn skr_read_batch(
+            buffer: *const u8,
+            buffer_len: usize,
+            lengths: *const u32,
+            lengths_len: usize,
+            list: *mut u8,
+            list_len: usize,
+        ) -> Batch;
         pub fn skr_replay_log(log: *const u8, log_len: usize) -> Replay;
         pub safe fn skr_replay_step(
             open: bool,
@@ -384,6 +396,16 @@ pub fn dtc_next(buffer: &[u8]) -> NextTroubleCode {
 pub fn tally_records(records: &[u8]) -> Tally {
     // SAFETY: the pointer and the length are those of one slice.
     unsafe { c::skr_tally_records(records.as_ptr(), records.len()) }
+}
+
+/// `skr_read_batch`.
+#[inline]
+pub fn read_batch(buffer: &[u8], lengths: &[u32], list: &mut [u8]) -> Batch {
+    let (b, b_len) = (buffer.as_ptr(), buffer.len());
+    let (n, n_len) = (lengths.as_ptr(), lengths.len());
+    let (l, l_len) = (list.as_mut_ptr(), list.len());
+    // SAFETY: each pointer stands with its own slice's length, and none of the other two overlaps the list.
+    unsafe { c::skr_read_batch(b, b_len, n, n_len, l, l_len) }
 }
 
 /// `skr_replay_log`.

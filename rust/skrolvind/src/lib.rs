@@ -16,6 +16,7 @@
 #![no_std]
 #![warn(missing_docs)]
 
+mod batch;
 pub mod flat;
 mod read;
 mod replay;
@@ -24,6 +25,7 @@ mod tests;
 mod types;
 mod write;
 
+pub use batch::*;
 pub use read::*;
 pub use replay::*;
 pub use types::*;

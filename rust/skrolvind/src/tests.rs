@@ -431,3 +431,36 @@ fn a_refusal_and_a_reason_print_their_meaning() {
     meanings.dedup();
     assert_eq!(meanings.len(), 16);
 }
+
+#[test]
+fn batches() {
+    // accepted with bytes left over, empty, an unknown mode, a name that is not UTF-8, sizes 0 bytes wide, a name that is cut
+    let buffer = [
+        2, 0, 1, 0x61, 9, 9, 7, 0, 1, 0x61, 2, 0, 1, 0xFF, 1, 0, 1, 0x61, 0, 0, 2, 0, 2, 0x61,
+    ];
+    let lengths = [6, 0, 4, 4, 6, 4];
+    let mut list = [99; 8];
+    assert_eq!(read_batch(&buffer, &lengths, &mut list), Ok(6));
+    assert_eq!(list, [0, 1, 3, 2, 6, 1, 99, 99]);
+    // no messages and an empty buffer
+    assert_eq!(read_batch(&[], &[], &mut []), Ok(0));
+    let many = vec![0; 4097];
+    let mut ones = vec![99; 4097];
+    assert_eq!(read_batch(&[], &many[1..], &mut ones), Ok(4096));
+    assert_eq!((ones[0], ones[4095], ones[4096]), (1, 1, 99));
+    // 12, then 10, then 7, and the list is untouched
+    for (buffer, lengths, room, wanted) in [
+        (&buffer[..0], &many[..], 3, refusal(12, 0, 0)),
+        (&buffer[..1], &many, 9, refusal(12, 0, 0)),
+        (&buffer[1..], &lengths, 8, refusal(10, 0, 0)),
+        (&buffer, &lengths[1..], 8, refusal(10, 0, 0)),
+        (&buffer[..4], &[u32::MAX, 5], 1, refusal(10, 0, 0)),
+        (&buffer, &[], 0, refusal(10, 0, 0)),
+        (&buffer, &lengths, 5, refusal(7, 6, 5)),
+        (&[], &[0], 0, refusal(7, 1, 0)),
+    ] {
+        let mut list = vec![99; room];
+        assert_eq!(read_batch(buffer, lengths, &mut list), Err(wanted));
+        assert_eq!(list, vec![99; room]);
+    }
+}

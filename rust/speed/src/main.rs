@@ -3,6 +3,7 @@
 //! The original is called as itself, this port through its binding. With `--side` one side runs alone and without a clock, so that
 //! its instructions can be counted.
 mod arguments;
+mod batch;
 mod clock;
 mod messages;
 mod row;

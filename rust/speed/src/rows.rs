@@ -1,4 +1,5 @@
 //! The rows of the table: the original called as itself, and this port through its binding.
+use crate::batch::{self, List, Morning};
 use crate::messages::{self, TEXTS, Text, name};
 use crate::row::{Codec, Row, read_and_written, read_only};
 use crate::same::{self, Read};
@@ -37,6 +38,21 @@ pub fn rows() -> Vec<Row> {
     rows.extend(names().map(|(len, text)| name_check(len, text)));
     rows.extend([100, 65_536].map(|count| tallied("a year's sheet", sheet::year(count))));
     rows.push(tallied("every cell in turn", sheet::cells_in_turn(65_536)));
+    for (called, refused) in [("all good", 0), ("8 in a hundred refused", 8)] {
+        let morning = batch::morning(refused);
+        rows.push(read_in_one_call(
+            called,
+            "the original",
+            morning,
+            batch::by_the_original,
+        ));
+        rows.push(read_in_one_call(
+            called,
+            "single calls",
+            morning,
+            batch::by_single_calls,
+        ));
+    }
     rows
 }
 
@@ -200,5 +216,14 @@ fn tallied(called: &str, records: Vec<u8>) -> Row {
     let calls = (sheet::tally, skrolvind::tally_records);
     read_only(&what, records.len(), records, calls, |original, port| {
         original.is_some() && *original == port.ok()
+    })
+}
+
+/// A morning's requests in one call, against a loop that has each one read.
+fn read_in_one_call(called: &str, by: &str, morning: Morning, each: fn(Morning) -> List) -> Row {
+    let what = format!("batch of {} requests, {called}, against {by}", batch::COUNT);
+    let calls = (each, batch::in_one_call);
+    read_only(&what, morning.buffer.len(), morning, calls, |each, port| {
+        Some(*each) == *port
     })
 }
