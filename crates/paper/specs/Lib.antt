@@ -25,3 +25,4 @@ pub mod ReplayProgram
 pub mod Reason
 pub mod WhyProgram
 pub mod Batch
+pub mod Joined
