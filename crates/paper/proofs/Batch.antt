@@ -97,7 +97,7 @@ accepted-is b ls e =
     (leb-true _ _ few, eqb-true _ _ whole, cc)
 
 -- what a list of numbers that was written has: room for them, and them over its front
-wrote-is : (a : Answer (List ℕ)) (old : List ℕ) {n : ℕ} → written a old .answer ≡ accepted n
+pub wrote-is : (a : Answer (List ℕ)) (old : List ℕ) {n : ℕ} → written a old .answer ≡ accepted n
     → (xs : List ℕ) × (a ≡ accepted xs) × (n ≡ length xs) × (n ≤ length old) × (written a old .contents ≡ over xs old)
 wrote-is (refused r) old e = absurd (never e)
 wrote-is (accepted xs) old {n} e = by (leb (length xs) (length old)) refl
@@ -107,7 +107,7 @@ wrote-is (accepted xs) old {n} e = by (leb (length xs) (length old)) refl
     by false p = absurd (never (rw p at e))
 
 -- a list that was refused is as it was
-refused-is : (a : Answer (List ℕ)) (old : List ℕ) {e : Refusal} → written a old .answer ≡ refused e → written a old .contents ≡ old
+pub refused-is : (a : Answer (List ℕ)) (old : List ℕ) {e : Refusal} → written a old .answer ≡ refused e → written a old .contents ≡ old
 refused-is (refused r) old h = refl
 refused-is (accepted xs) old h = by (leb (length xs) (length old)) refl
   where

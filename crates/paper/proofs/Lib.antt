@@ -30,3 +30,5 @@ pub mod Reason
 pub mod Why
 pub mod Batch
 pub mod BatchVectors
+pub mod Joined
+pub mod JoinedVectors

@@ -173,7 +173,7 @@ whole-back m u v =
       joined = v .is;
     }
 
-reads-request : Reads Request readRequest RequestWay
+pub reads-request : Reads Request readRequest RequestWay
 unfolding readRequest
 reads-request =
     reads-as (λ m u. (whole-there m u, whole-back m u))

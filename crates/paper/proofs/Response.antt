@@ -254,7 +254,7 @@ whole-back m u v =
       joined = v .is;
     }
 
-reads-response : Reads Response readResponse ResponseWay
+pub reads-response : Reads Response readResponse ResponseWay
 unfolding readResponse
 reads-response =
     reads-as (λ m u. (whole-there m u, whole-back m u))

@@ -1,16 +1,17 @@
 -- Document 02, Req 13: several requests in one buffer. The archive joins rewritten requests without lengths (`Batch.joined`), and takes them apart again.
-use Prim.Native.Nat.{ℕ, zero, suc, _-_}
+use Prim.Native.Nat.{ℕ, zero, suc, _-_, _≤_, _<_}
 use mathlib.Core.Path.{_≡_}
-use mathlib.Core.List.{List, [], _∷_, _++_}
+use mathlib.Core.List.{List, [], _∷_, _++_, map}
 use lib.ListN.{length}
-use Rattle.paper.specs.Answer.{tooMany, Answer, accepted, refused, _then_, Read, _leaving_, Reader, Written, written}
+use Rattle.paper.specs.Answer.{Refusal, tooMany, Answer, accepted, refused, _then_, Read, _leaving_, Reader, Written, written}
 use Rattle.paper.specs.Bytes.{Bytes}
 use Rattle.paper.specs.Rewriting.{Message, Rewritten}
 use Rattle.paper.specs.Request.{Request, readRequest}
-use Rattle.paper.specs.Batch.{joined}
+use Rattle.paper.specs.Tally.{sum}
+use Rattle.paper.specs.Batch.{messages, joined}
 
 -- ---- what makes it so
--- what a reader takes does not depend on what follows: with other bytes in the tail's place it takes the same, and they mean the same. Of no bytes it takes nothing.
+-- what a reader takes does not depend on what follows: with other bytes in the tail's place it takes the same, and they mean the same. An empty message it refuses.
 pub record TakesItsOwn (A : Type 0) (read : Reader A) : Type 0 where
   pub alike : (u t : List ℕ) {a : A} → Bytes (u ++ t) → read (u ++ t) ≡ accepted (a leaving t) → (v : List ℕ) → read (u ++ v) ≡ accepted (a leaving v)
   pub some : {a : A} {t : List ℕ} → read [] ≡ accepted (a leaving t) → ⊥
@@ -77,3 +78,32 @@ pub record TakenApart : Type 0 where
 
 unfoldable pub takenApart : (buffer list : List ℕ) → TakenApart
 takenApart buffer list = record { filled = written (pieceLengths buffer) list; found = length (piecesOf buffer .lengths) }
+
+-- ---- what is to hold of every buffer that is taken apart
+-- how it ends after so many pieces, where this is left of the buffer: nothing is; or the reader refuses it; or there is no place for a piece more
+pub data Ends (most found : ℕ) (rest : List ℕ) : Answer (Unit {0}) → Type 0 where
+  withTheBuffer : rest ≡ [] → Ends most found rest (accepted tt)
+  atAPiece : {e : Refusal} → found < most → (rest ≡ [] → ⊥) → readRequest rest ≡ refused e → Ends most found rest (refused e)
+  atTheMost : found ≡ most → (rest ≡ [] → ⊥) → Ends most found rest (refused tooMany)
+
+-- the buffer is whole requests, joined, and a rest; the pieces are those requests
+pub record Parts (most : ℕ) (s : List ℕ) (p : Pieces) : Type 0 where
+  pub requests : List (List ℕ)
+  pub rest : List ℕ
+  pub whole : Each (Whole Request readRequest) requests
+  pub is : s ≡ joined requests ++ rest
+  pub lengths : p .lengths ≡ map length requests
+  pub few : length requests ≤ most
+  pub ended : Ends most (length requests) rest (p .ended)
+
+-- a buffer that is accepted: its messages by the lengths that are answered are whole requests, their join is the buffer, and their lengths are these
+pub record TakenApartTo (s ls : List ℕ) : Type 0 where
+  pub few : length ls ≤ 4096
+  pub whole : Each (Whole Request readRequest) (messages s ls)
+  pub again : joined (messages s ls) ≡ s
+  pub lengths : map length (messages s ls) ≡ ls
+  pub adds-up : sum ls ≡ length s
+
+-- the length of a request: 32 bits hold it
+abbrev pub OneRequest : ℕ → Type 0
+OneRequest n = (1 ≤ n) × (n ≤ 65572)
