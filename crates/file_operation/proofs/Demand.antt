@@ -62,7 +62,7 @@ module _ {A Q : Type 0} {read : Reader A} {rewrite : Reader (List ℕ)} {meant :
   right {s} {x} h = keeps .reads s x .0 h
 
   -- what was read whole is a message
-  message : {s : List ℕ} {q : Q} → Whole Q Reads s q → Message A read s (meant s q)
+  pub message : {s : List ℕ} {q : Q} → Whole Q Reads s q → Message A read s (meant s q)
   message w = record { bytes = w .bytes; whole = rw drop-length at (sym (right (w .read) .paper)) }
 
   -- two that were read whole say the same exactly if they mean the same
@@ -74,7 +74,7 @@ module _ {A Q : Type 0} {read : Reader A} {rewrite : Reader (List ℕ)} {meant :
   message-too {t = t} w x e = subst (Message A read t) (sym (alike w x .0 e)) (message x)
 
   -- what a call wrote of a message is the paper's rewriting
-  rewritten : {s u : List ℕ} {a : A} → Message A read s a → Became Rewrites s u → Rewritten rewrite s u
+  pub rewritten : {s u : List ℕ} {a : A} → Message A read s a → Became Rewrites s u → Rewritten rewrite s u
   rewritten {s} {u} m b =
       let (v, e) = keeps .paper .always m in
       let h = keeps .rewrites _ _ _ _ .0 (b .rewrote) in

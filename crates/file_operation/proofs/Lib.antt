@@ -6,3 +6,4 @@ pub mod Calls
 pub mod Demand
 pub mod Longest
 pub mod Unique
+pub mod Joined

@@ -3,3 +3,4 @@ pub mod Part
 pub mod Writing
 pub mod Rewriting
 pub mod Calls
+pub mod Joined

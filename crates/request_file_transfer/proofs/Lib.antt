@@ -4,6 +4,7 @@ pub mod Laid
 pub mod Unique
 pub mod DemandThree
 pub mod DemandThreeExample
+pub mod Joined
 pub mod LongestRequest
 pub mod NameHeld
 pub mod Named

@@ -2,6 +2,7 @@ pub mod Cases
 pub mod Laid
 pub mod DemandThree
 pub mod DemandThreeExample
+pub mod Joined
 pub mod LongestResponse
 pub mod SentHeld
 pub mod Unique
