@@ -6,8 +6,8 @@
  *
  * Every record begins with three numbers: 0, 0, 0 where the call was accepted, else the number of the refusal and the two
  * values that it carries (docs/REFUSALS.md). After a refusal every other field is 0, but for the state of a recorded
- * transfer, and for the field and the offset where it is asked why a message is refused. A kind or a sub-function that does
- * not exist is refused before anything else is looked at.
+ * transfer, for the field and the offset where it is asked why a message is refused, and for the count of a joined buffer that
+ * is taken apart. A kind or a sub-function that does not exist is refused before anything else is looked at.
  *
  * Refusal 2 for a name that is not UTF-8 says where the name goes bad: `first` is the length, in bytes of the name, of its
  * longest beginning that is UTF-8 (what skr_valid_up_to answers). For whatever is too long it is 0.
@@ -51,6 +51,12 @@ typedef struct {
 
 /* What is answered to a batch of messages: the three numbers and nothing more. */
 typedef skr_desk skr_batch;
+
+/* What a joined buffer is taken apart to: `count` is how many requests there are; beside a refusal, how many were found before it. */
+typedef struct {
+    uint64_t number, first, second;
+    uint64_t count;
+} skr_split;
 
 /* Why a file transfer message is refused. `field` is the field that stopped it: 1 mode, 2 name, 3 format byte, 4 size group,
  * 5 block length, 6 position, and 0 where the message is accepted. `offset` is where that field begins in the message: a name
@@ -156,6 +162,13 @@ skr_tally skr_tally_records(const uint8_t *records, size_t records_len);
  * not add up to buffer_len exactly, then 7 where the list has fewer entries than there are messages (needed, list_len). */
 skr_batch skr_read_batch(const uint8_t *buffer, size_t buffer_len, const uint32_t *lengths, size_t lengths_len,
                          uint8_t *list, size_t list_len);
+
+/* Takes apart requests that were joined without lengths: the list becomes the length of each, as it stands in the buffer, from its
+ * start, and is then what skr_read_batch takes as `lengths`, with `count` entries. Entries from the count on stay as they were. An
+ * empty buffer has no request. Refusals, each of which leaves the list untouched: that of skr_read_request for the first piece that
+ * it refuses, and `count` is then that piece's place, counted from 0; 12 where bytes follow 4,096 requests, whatever they are; and
+ * last 7 where the list has fewer entries than there are requests (needed, lengths_len). */
+skr_split skr_split_joined(const uint8_t *buffer, size_t buffer_len, uint32_t *lengths, size_t lengths_len);
 
 /* Runs a log of records of 4 bytes (service, kind or block counter, payload length high first) through the rules, from a state
  * that is closed and all 0. 12 for more than 65,536 records, then 10 for a cut last one, both with that first state; then the

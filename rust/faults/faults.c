@@ -1,4 +1,4 @@
-/* One fault at a time in front of the library, to see that the comparison finds it: SKROLVIND_FAULT is its number, 1 to 65; with 0 there is none.
+/* One fault at a time in front of the library, to see that the comparison finds it: SKROLVIND_FAULT is its number, 1 to 70; with 0 there is none.
  * Each function calls the library's own, which `try` has given the prefix real_, and spoils the answer. `try` counts the lines that have FAULT ==. */
 #include <stdlib.h>
 #include <string.h>
@@ -180,4 +180,14 @@ DOOR(skr_batch, skr_read_batch, (const uint8_t *m, size_t n, const uint32_t *k, 
      if (FAULT == 63 && r.number == 10 && room < c) { r.number = 7; r.first = c; r.second = room; } /* 7 before 10 */
      if (FAULT == 64 && r.number == 7) memset(list, 0, room);           /* the list is filled before 7 is judged */
      if (FAULT == 65 && !r.number) for (size_t i = 0; i < c; at += k[i++]) list[i] = (uint8_t)real_skr_desk_check(m + at, k[i]).number; /* the desk check in place of the reader */
+     return r;)
+
+DOOR(skr_split, skr_split_joined, (const uint8_t *m, size_t n, uint32_t *k, size_t room),
+     skr_split r = real_skr_split_joined(m, n, k, room);
+     size_t at = 0;
+     if (FAULT == 66 && r.number && r.number != 7) r.count = 0;         /* the place of the piece that is refused is not told */
+     if (FAULT == 67 && r.number == 7) memset(k, 0, room * sizeof *k);            /* the list is emptied before 7 is judged */
+     if (FAULT == 68 && !r.number) for (size_t i = 0; i < r.count; i++) { uint8_t u[66000]; size_t l = k[i]; k[i] = (uint32_t)real_skr_rewrite_request(m + at, l, u, sizeof u).written; at += l; } /* the lengths that rewriting would give */
+     if (FAULT == 69 && !r.number && r.count > 1) r.count--;            /* the last piece is not counted */
+     if (FAULT == 70 && r.number == 12) { r.number = 0; r.count = 4096; } /* what follows 4,096 pieces is passed over */
      return r;)

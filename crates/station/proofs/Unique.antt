@@ -10,6 +10,7 @@ use Rattle.paper.proofs.Utf8.{longest-once}
 use Rattle.wire.proofs.Unique.{Determined}
 use Rattle.station.specs.declared.records.WrittenRecord.{WrittenRecord}
 use Rattle.station.specs.declared.records.DeskRecord.{DeskRecord}
+use Rattle.station.specs.declared.joined.SplitRecord.{SplitRecord}
 use Rattle.station.proofs.transfer.skr_read_request.Kinds as read-request-kinds
 use Rattle.station.proofs.transfer.skr_read_request.Reads as read-request-reads
 use Rattle.station.proofs.transfer.skr_read_response.Kinds as read-response-kinds
@@ -39,6 +40,9 @@ use Rattle.station.proofs.why.skr_why_response.Reads as why-response-re
 use Rattle.station.proofs.batches.skr_read_batch as read-batch
 use Rattle.station.proofs.batches.skr_read_batch.Kinds as read-batch-kinds
 use Rattle.station.proofs.batches.skr_read_batch.Reads as read-batch-reads
+use Rattle.station.proofs.joined.skr_split_joined as split-joined
+use Rattle.station.proofs.joined.skr_split_joined.Kinds as split-joined-kinds
+use Rattle.station.proofs.joined.skr_split_joined.Reads as split-joined-reads
 use Rattle.station.proofs.transfer.skr_write_request as write-request
 use Rattle.station.proofs.transfer.skr_write_request.Kinds as write-request-kinds
 use Rattle.station.proofs.transfer.skr_write_request.Reads as write-request-reads
@@ -129,3 +133,8 @@ rewrite-response-determined κs a x y r s p q = (p .0 ∙ sym (q .0), p .1 ∙ s
 pub read-batch-determined : (κs : Lfts 3) (a : ArgsD read-batch.signature κs) (x y : AtExit (endedOf 3 read-batch-kinds.ps read-batch-kinds.r) κs) (r s : DeskRecord)
     → read-batch-reads.Post κs a r x → read-batch-reads.Post κs a s y → (r ≡ s) × (now (x .1 .1 .0) ≡ now (y .1 .1 .0))
 read-batch-determined κs a x y r s p q = (p .0 ∙ sym (q .0), p .1 ∙ sym (q .1))
+
+-- ---- a joined buffer: the record, and what the list holds at the exit
+pub split-joined-determined : (κs : Lfts 2) (a : ArgsD split-joined.signature κs) (x y : AtExit (endedOf 2 split-joined-kinds.ps split-joined-kinds.r) κs) (r s : SplitRecord)
+    → split-joined-reads.Post κs a r x → split-joined-reads.Post κs a s y → (r ≡ s) × (now (x .1 .0) ≡ now (y .1 .0))
+split-joined-determined κs a x y r s p q = (p .0 ∙ sym (q .0), p .1 ∙ sym (q .1))

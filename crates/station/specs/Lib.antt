@@ -3,3 +3,4 @@ pub mod Flat
 pub mod Handed
 pub mod Why
 pub mod Batches
+pub mod Joined

@@ -1,5 +1,5 @@
 // The records that cross the doors. Each begins with the refusal's number (0 for accepted) and the two values that it carries;
-// after a refusal every other field is 0, but for the state of a recorded transfer, and for the field and the offset of a reason.
+// after a refusal every other field is 0, but for the state of a recorded transfer, for the field and the offset of a reason, and for the count of a joined buffer.
 use file_operation::rewrite::RewriteAnswer;
 use wire::refusal::Refusal;
 use wire::write::WriteAnswer;

@@ -8,6 +8,7 @@ mod desk;
 mod expected;
 mod grid;
 mod items;
+mod joined;
 mod log_model;
 mod model;
 mod names;
@@ -69,6 +70,8 @@ fn main() {
     step(b, "long logs", replays::long_logs);
     step(b, "batches of short messages", batch::short);
     step(b, "batches at their bounds", batch::bounds);
+    step(b, "joined requests of every kind", joined::every_kind);
+    step(b, "joined requests at their bounds", joined::bounds);
     if !arguments.quick {
         step(b, "all messages of up to 3 bytes", sweep::short_messages);
         step(b, "messages of 4 to 7 chosen bytes", sweep::chosen_messages);
@@ -99,10 +102,13 @@ fn random_rounds(bench: &mut Bench, seed: u64, end: Instant) {
     let (mut rng, mut logs) = (Rng::new(seed), Rng::new(!seed));
     // and so are batches
     let mut batches = Rng::new(seed.rotate_left(32));
+    // and joined requests
+    let mut joined = Rng::new(!seed.rotate_left(32));
     loop {
         random::round(bench, &mut rng);
         replays::round(bench, &mut logs);
         batch::round(bench, &mut batches);
+        joined::round(bench, &mut joined);
         if let Some(recorder) = &mut bench.recorder {
             recorder.end();
         }

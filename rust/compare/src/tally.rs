@@ -24,9 +24,10 @@ pub enum Call {
     WhyRequest,
     WhyResponse,
     ReadBatch,
+    SplitJoined,
 }
 
-const CALLS: [&str; 20] = [
+const CALLS: [&str; 21] = [
     "requests read",
     "responses read",
     "routine requests read",
@@ -47,6 +48,7 @@ const CALLS: [&str; 20] = [
     "reasons of requests",
     "reasons of responses",
     "batches of requests read",
+    "joined requests taken apart",
 ];
 
 /// What no door leads to, in the order of the letters that the recorded list has for it.
@@ -126,9 +128,10 @@ pub enum Rule {
     Replay,
     Why,
     Batch,
+    Joined,
 }
 
-const RULES: [&str; 13] = [
+const RULES: [&str; 14] = [
     "size width 0 or 17 up: refusal 6 with the width",
     "routine request refused with 4: the byte is the low seven bits",
     "too little room: refusal 7, and nothing is written",
@@ -142,6 +145,7 @@ const RULES: [&str; 13] = [
     "recorded transfers: ours, as document 02 has them",
     "why a message is refused: document 02's",
     "batches of messages: ours, as document 02 has them",
+    "joined requests: ours, as document 02 has them",
 ];
 
 impl Rule {

@@ -58,6 +58,16 @@ pub struct Desk {
 /// What is answered to a batch of messages: the three numbers and nothing more.
 pub type Batch = Desk;
 
+/// What a joined buffer is taken apart to: how many requests there are, or beside a refusal how many were found before it.
+#[repr(C)]
+#[derive(Clone, Copy, Debug, Default, PartialEq, Eq)]
+pub struct Split {
+    pub number: u64,
+    pub first: u64,
+    pub second: u64,
+    pub count: u64,
+}
+
 /// Why a file transfer message is refused: the field that stopped it, 0 where none did, and where it begins.
 #[repr(C)]
 #[derive(Clone, Copy, Debug, Default, PartialEq, Eq)]
@@ -144,8 +154,8 @@ impl Sizes {
 /// The C functions themselves, over pointers: for those who have to hand over what no slice can be.
 pub mod c {
     use super::{
-        Batch, Desk, FileTransfer, NextTroubleCode, Replay, Routine, Tally, TroubleCode, Why,
-        Written,
+        Batch, Desk, FileTransfer, NextTroubleCode, Replay, Routine, Split, Tally, TroubleCode,
+        Why, Written,
     };
 
     unsafe extern "C" {
@@ -222,6 +232,12 @@ pub mod c {
             list: *mut u8,
             list_len: usize,
         ) -> Batch;
+        pub fn skr_split_joined(
+            buffer: *const u8,
+            buffer_len: usize,
+            lengths: *mut u32,
+            lengths_len: usize,
+        ) -> Split;
         pub fn skr_replay_log(log: *const u8, log_len: usize) -> Replay;
         pub safe fn skr_replay_step(
             open: bool,
@@ -406,6 +422,15 @@ pub fn read_batch(buffer: &[u8], lengths: &[u32], list: &mut [u8]) -> Batch {
     let (l, l_len) = (list.as_mut_ptr(), list.len());
     // SAFETY: each pointer stands with its own slice's length, and none of the other two overlaps the list.
     unsafe { c::skr_read_batch(b, b_len, n, n_len, l, l_len) }
+}
+
+/// `skr_split_joined`.
+#[inline]
+pub fn split_joined(buffer: &[u8], lengths: &mut [u32]) -> Split {
+    let (b, b_len) = (buffer.as_ptr(), buffer.len());
+    let (n, n_len) = (lengths.as_mut_ptr(), lengths.len());
+    // SAFETY: each pointer stands with its own slice's length, and the two do not overlap.
+    unsafe { c::skr_split_joined(b, b_len, n, n_len) }
 }
 
 /// `skr_replay_log`.

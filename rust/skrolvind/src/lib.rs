@@ -18,6 +18,7 @@
 
 mod batch;
 pub mod flat;
+mod joined;
 mod read;
 mod replay;
 #[cfg(test)]
@@ -26,6 +27,7 @@ mod types;
 mod write;
 
 pub use batch::*;
+pub use joined::*;
 pub use read::*;
 pub use replay::*;
 pub use types::*;

@@ -464,3 +464,49 @@ fn batches() {
         assert_eq!(list, vec![99; room]);
     }
 }
+
+#[test]
+fn joined_requests() {
+    // deleted, added with sizes a byte wider than they need be, a folder read
+    let pieces: [&[u8]; 3] = [
+        &[2, 0, 1, 0x61],
+        &[1, 0, 1, 0x61, 0x11, 2, 0, 1, 0, 2],
+        &[5, 0, 0],
+    ];
+    let buffer = pieces.concat();
+    let mut lengths = [99; 5];
+    assert_eq!(split_joined(&buffer, &mut lengths), Ok(3));
+    assert_eq!(lengths, [4, 10, 3, 99, 99]);
+    let mut numbers = [99; 3];
+    assert_eq!(read_batch(&buffer, &lengths[..3], &mut numbers), Ok(3));
+    assert_eq!(numbers, [0; 3]);
+    // an empty buffer has no request
+    assert_eq!(split_joined(&[], &mut []), Ok(0));
+    let dirs = [5, 0, 0].repeat(4097);
+    let mut many = vec![99; 4097];
+    assert_eq!(split_joined(&dirs[3..], &mut many), Ok(4096));
+    assert_eq!((many[0], many[4095], many[4096]), (3, 3, 99));
+    // the reader's refusal with the piece's place, 12 whatever follows, then 7; and the list is untouched
+    let not_split = |number, first, second, found| {
+        Err(NotSplit {
+            refusal: refusal(number, first, second),
+            found,
+        })
+    };
+    let bad = [&buffer[..], &[7, 0, 0]].concat();
+    for (buffer, room, wanted) in [
+        (&buffer[..13], 9, not_split(1, 5, 4, 1)),
+        (&buffer[..16], 1, not_split(1, 2, 1, 2)),
+        (&bad, 2, not_split(3, 7, 0, 3)),
+        (&dirs, 9, not_split(12, 0, 0, 4096)),
+        (&[&dirs[3..], &[9]].concat(), 9, not_split(12, 0, 0, 4096)),
+        (&buffer, 2, not_split(7, 3, 2, 3)),
+        (&buffer, 0, not_split(7, 3, 0, 3)),
+    ] {
+        let mut lengths = vec![99; room];
+        assert_eq!(split_joined(buffer, &mut lengths), wanted);
+        assert_eq!(lengths, vec![99; room]);
+    }
+    let told = std::format!("{}", split_joined(&bad, &mut []).unwrap_err());
+    assert!(told.ends_with("(after 3 requests)"), "{told}");
+}
