@@ -26,3 +26,4 @@ pub mod Reason
 pub mod WhyProgram
 pub mod Batch
 pub mod Joined
+pub mod WholeMessage
