@@ -32,3 +32,5 @@ pub mod Batch
 pub mod BatchVectors
 pub mod Joined
 pub mod JoinedVectors
+pub mod WholeMessage
+pub mod MessageVectors

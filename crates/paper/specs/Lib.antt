@@ -27,3 +27,4 @@ pub mod WhyProgram
 pub mod Batch
 pub mod Joined
 pub mod WholeMessage
+pub mod MessageProgram

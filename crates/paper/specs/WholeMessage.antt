@@ -1,4 +1,5 @@
 -- Document 02, Req 14: whole messages off the adapter. A service byte says which of five sorts it is; what follows it is document 01's, cited here and not said again.
+use mathlib.Core.Path.{_≡_}
 use Prim.Native.Nat.{ℕ}
 use mathlib.Core.Bool.{Bool, false}
 use mathlib.Core.List.{List, [], _∷_}
@@ -137,3 +138,9 @@ withService k read = do
 -- such a message read and written anew
 abbrev pub rewriteWithService : {A : Type 0} → Sort → Reader A → (A → Answer (List ℕ)) → Reader (List ℕ)
 rewriteWithService {A} k read write = rewriting (withService k read) (λ (m : A). led k (write m))
+
+-- u is one of m's ways of being written as such a message: its service byte, and then one of document 01's ways
+pub record LedWay {A : Type 0} (k : Sort) (Way : A → List ℕ → Type 0) (m : A) (u : List ℕ) : Type 0 where
+  pub rest : List ℕ
+  pub way : Way m rest
+  pub is : u ≡ serviceByte k ∷ rest
