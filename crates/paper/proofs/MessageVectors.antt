@@ -5,7 +5,7 @@ use mathlib.Core.Path.{_≡_, refl}
 use Prim.Native.Nat.{ℕ}
 use Prim.Native.String.{String}
 use mathlib.Core.Bool.{true, false}
-use mathlib.Core.List.{List, [], _∷_, _++_, map}
+use mathlib.Core.List.{List, [], _∷_, map}
 use lib.ListN.{replicate}
 use Rattle.paper.specs.Answer.{refusal, Answer, accepted, refused, Read, _leaving_, _>>=_, give, refuse, over, written}
 use Rattle.paper.specs.Bytes.{ofBytes, toBytes}
@@ -19,7 +19,7 @@ use Rattle.paper.specs.RoutineControl.{startRoutine, stopRoutine, reques
 use Rattle.paper.specs.RoutineControl.{routineRequestBytes, routineResponseBytes, writeRoutineRequest, writeRoutineResponse}
 use Rattle.paper.specs.ReadingProgram.{decimalIn, decimal, ascii, textOf}
 use Rattle.paper.specs.Form.{filledIn}
-use Rattle.paper.specs.WholeMessage.{knownSort, fileTransfer, routineControl, knownService, stands, Negative, noMore, readNegative}
+use Rattle.paper.specs.WholeMessage.{knownSort, fileTransfer, routineControl, knownService, stands, noMore, readNegative}
 use Rattle.paper.specs.WholeMessage.{WholeMessage, aFileRequest, aRoutineRequest, aFileResponse, aRoutineResponse, aNegativeAnswer, readMessage, writeNegative, writeMessage}
 use Rattle.paper.specs.MessageProgram.{messageLine}
 

@@ -2,7 +2,7 @@
 -- and that of a negative answer reading and writing give back each other.
 -- Assumes nothing.
 use mathlib.Core.Path.{_≡_, refl, ap, ap₂, sym, subst, _∙_}
-use Prim.Native.Nat.{ℕ, suc, _+_, _≤_, _<_}
+use Prim.Native.Nat.{ℕ, _+_, _<_}
 use mathlib.Core.Bool.{Bool, true, false}
 use mathlib.Core.List.{List, [], _∷_, _++_, append-nil}
 use mathlib.Core.Logic.{_↔_}
@@ -10,7 +10,6 @@ use native.Mathlib.Omega.{arith}
 use borrow.Author.Tests.{eqb-true, eq-eqb, ne-eqb}
 use lib.Dec.{eqb}
 use lib.ListN.{length, getD}
-use Rattle.paper.specs.Choice.{pick}
 use Rattle.paper.specs.Answer.{Refusal, unknownService, outOfRange, Answer, accepted, refused, _then_, Read, _leaving_, Reader, onward, _>>=_, give, refuse, judge, handOut}
 use Rattle.paper.specs.Bytes.{Bytes}
 use Rattle.paper.specs.Kind.{oneOf}

@@ -2,7 +2,6 @@
 -- a format byte that is not there, are the reading program's.
 use Prim.Native.Nat.{ℕ, _+_, _-_, _/_, _%_}
 use Prim.Native.Char.{code}
-use Prim.Native.String.{String}
 use mathlib.Core.Bool.{Bool}
 use mathlib.Core.List.{List, [], _∷_, _++_}
 use lib.ListN.{length}
@@ -10,12 +9,12 @@ use lib.Dec.{leb, ltb}
 use Rattle.paper.specs.Choice.{pick}
 use Rattle.paper.specs.Answer.{Answer, accepted, refused, Read, _leaving_}
 use Rattle.paper.specs.Kind.{modeOf}
-use Rattle.paper.specs.Request.{Request, afterName, requestBytes}
-use Rattle.paper.specs.Response.{Response, AfterMode, ended, blockAndFormat, afterMode, responseBytes}
+use Rattle.paper.specs.Request.{afterName, requestBytes}
+use Rattle.paper.specs.Response.{AfterMode, ended, blockAndFormat, afterMode, responseBytes}
 use Rattle.paper.specs.RoutineControl.{byteOf}
 use Rattle.paper.specs.ReadingProgram.{Shown, dash, shown, formatShown, tooLong, bad, ascii, textOf}
 use Rattle.paper.specs.Form.{filledIn}
-use Rattle.paper.specs.WholeMessage.{fileRequest, fileResponse, serviceByte, requestByte, Negative}
+use Rattle.paper.specs.WholeMessage.{fileRequest, fileResponse, serviceByte, requestByte}
 use Rattle.paper.specs.WholeMessage.{WholeMessage, aFileRequest, aRoutineRequest, aFileResponse, aRoutineResponse, aNegativeAnswer, readMessage}
 
 -- ---- the line of a sort

@@ -1,0 +1,4 @@
+pub mod Codes
+pub mod Behind
+pub mod Led
+pub mod Unique
