@@ -93,6 +93,21 @@ typedef struct {
     uint64_t open, has_last, last, repeats, total;
 } skr_replay;
 
+/* A whole message off the adapter that was read. `service` is its service byte: 0x38 file transfer request, 0x31 routine request,
+ * 0x78 file transfer response, 0x71 routine response, 0x7F negative answer. `start` and `len` are the place of the name, of the
+ * block length or of the routine's record, and `tail` is where a file transfer message ends: all are counted from the service byte,
+ * which stands at 0. Of a negative answer `negative_service` is the service that is answered (0x38 or 0x31), `code` the code, and
+ * `listed` 1 where the code stands in that service's list, else 0. What the sort lacks is 0, and so is what the kind lacks. */
+typedef struct {
+    uint64_t number, first, second;
+    uint64_t service;
+    uint64_t kind, start, len, format;
+    uint64_t uncompressed_high, uncompressed_low, compressed_high, compressed_low;
+    uint64_t position, tail;
+    uint64_t suppress, sub_function, identifier;
+    uint64_t negative_service, code, listed;
+} skr_message;
+
 /* Reads a file transfer request from the start of the message. */
 skr_file_transfer skr_read_request(const uint8_t *message, size_t message_len);
 
@@ -181,6 +196,31 @@ skr_replay skr_replay_log(const uint8_t *log, size_t log_len);
  * count. A refusal (15, 13, 14) carries `place`, and the state is as it was; 12 where repeats or total would pass 64 bits. */
 skr_replay skr_replay_step(bool open, bool has_last, uint8_t last, uint64_t repeats, uint64_t total,
                            uint8_t service, uint8_t kind_or_counter, uint16_t payload, size_t place);
+
+/* Reads a whole message off the adapter, from its service byte on. 1 for an empty message, 15 for a service byte that is none of
+ * the five; then for 0x7F 1 when it is short (needed 3, the service byte counted), 9 when it is longer, 11 when its second byte is
+ * neither 0x38 nor 0x31; for the others what skr_read_request, skr_read_routine_request, skr_read_response and
+ * skr_read_routine_response refuse of the bytes behind the service byte. */
+skr_message skr_read_message(const uint8_t *message, size_t message_len);
+
+/* Write a message behind its service byte, with the refusals of the writer that has the same name without `_message`; but 7 counts
+ * the service byte, in what is needed and in the room. */
+skr_written skr_write_request_message(uint8_t kind, const uint8_t *name, size_t name_len, uint8_t format,
+                                      uint64_t uncompressed_high, uint64_t uncompressed_low,
+                                      uint64_t compressed_high, uint64_t compressed_low,
+                                      uint8_t *room, size_t room_len);
+skr_written skr_write_response_message(uint8_t kind, const uint8_t *block, size_t block_len, uint8_t format,
+                                       uint64_t uncompressed_high, uint64_t uncompressed_low,
+                                       uint64_t compressed_high, uint64_t compressed_low,
+                                       uint64_t position, uint8_t *room, size_t room_len);
+skr_written skr_write_routine_request_message(bool suppress, uint8_t sub_function, uint16_t identifier,
+                                              const uint8_t *record, size_t record_len, uint8_t *room, size_t room_len);
+skr_written skr_write_routine_response_message(uint8_t sub_function, uint16_t identifier,
+                                               const uint8_t *record, size_t record_len, uint8_t *room, size_t room_len);
+
+/* Writes a negative answer: 0x7F, the service, the code, which need not be listed. 11 for a service that is neither 0x38 nor 0x31,
+ * then 7. */
+skr_written skr_write_negative(uint8_t service, uint8_t code, uint8_t *room, size_t room_len);
 
 #ifdef __cplusplus
 }

@@ -1,4 +1,4 @@
-/* One fault at a time in front of the library, to see that the comparison finds it: SKROLVIND_FAULT is its number, 1 to 70; with 0 there is none.
+/* One fault at a time in front of the library, to see that the comparison finds it: SKROLVIND_FAULT is its number, 1 to 78; with 0 there is none.
  * Each function calls the library's own, which `try` has given the prefix real_, and spoils the answer. `try` counts the lines that have FAULT ==. */
 #include <stdlib.h>
 #include <string.h>
@@ -191,3 +191,38 @@ DOOR(skr_split, skr_split_joined, (const uint8_t *m, size_t n, uint32_t *k, size
      if (FAULT == 69 && !r.number && r.count > 1) r.count--;            /* the last piece is not counted */
      if (FAULT == 70 && r.number == 12) { r.number = 0; r.count = 4096; } /* what follows 4,096 pieces is passed over */
      return r;)
+
+DOOR(skr_message, skr_read_message, (const uint8_t *m, size_t n),
+     skr_message r = real_skr_read_message(m, n);
+     if (FAULT == 71 && r.number == 9 && n == 4 && m[0] == 0x7F && (m[1] == 0x38 || m[1] == 0x31)) { r.number = 0; r.first = 0; r.service = 0x7F; r.negative_service = m[1]; r.code = m[2]; } /* four bytes are read as three */
+     if (FAULT == 72 && r.number == 9 && m[1] != 0x38 && m[1] != 0x31) { r.number = 11; r.first = 0; } /* 11 before 9 */
+     if (FAULT == 73 && r.service == 0x31) r.start -= 1;                /* a place is counted behind the service byte */
+     if (FAULT == 74 && r.negative_service == 0x38 && r.code == 0x72) r.listed = 1; /* the list of 0x31 is used for 0x38 */
+     return r;)
+
+DOOR(skr_written, skr_write_request_message,
+     (uint8_t k, const uint8_t *a, size_t an, uint8_t f, uint64_t uh, uint64_t ul, uint64_t ch, uint64_t cl, uint8_t *r, size_t rn),
+     skr_written w = real_skr_write_request_message(k, a, an, f, uh, ul, ch, cl, r, rn);
+     if (FAULT == 75 && w.number == 7) w.first -= 1;                    /* the service byte is not counted in 7 */
+     return w;)
+
+DOOR(skr_written, skr_write_response_message,
+     (uint8_t k, const uint8_t *a, size_t an, uint8_t f, uint64_t uh, uint64_t ul, uint64_t ch, uint64_t cl, uint64_t p, uint8_t *r, size_t rn),
+     skr_written w = real_skr_write_response_message(k, a, an, f, uh, ul, ch, cl, p, r, rn);
+     if (FAULT == 76 && w.number == 7 && rn == 1) r[0] = 0x78;          /* the service byte is put into a room of one byte before the refusal */
+     return w;)
+
+DOOR(skr_written, skr_write_routine_request_message,
+     (bool s, uint8_t f, uint16_t i, const uint8_t *d, size_t dn, uint8_t *r, size_t rn),
+     skr_written w = real_skr_write_routine_request_message(s, f, i, d, dn, r, rn);
+     if (FAULT == 77 && w.number == 0) r[0] = 0x71;                     /* a request is sent as a response */
+     return w;)
+
+DOOR(skr_written, skr_write_routine_response_message,
+     (uint8_t f, uint16_t i, const uint8_t *d, size_t dn, uint8_t *r, size_t rn),
+     return real_skr_write_routine_response_message(f, i, d, dn, r, rn);)
+
+DOOR(skr_written, skr_write_negative, (uint8_t s, uint8_t c, uint8_t *r, size_t rn),
+     skr_written w = real_skr_write_negative(s, c, r, rn);
+     if (FAULT == 78 && w.number == 11 && rn < 3) { w.number = 7; w.first = 3; w.second = rn; } /* 7 before 11 */
+     return w;)

@@ -4,4 +4,5 @@ pub mod Routines
 pub mod Codes
 pub mod Sheets
 pub mod Stepped
+pub mod Whole
 pub mod Unique

@@ -8,6 +8,7 @@ use borrow.Fn.Kinds.{endedOf}
 use borrow.Fn.World.{ArgsD}
 use Rattle.paper.proofs.Utf8.{longest-once}
 use Rattle.wire.proofs.Unique.{Determined}
+use Rattle.wire.proofs.UniqueWriting.{WritesOnce}
 use Rattle.station.specs.declared.records.WrittenRecord.{WrittenRecord}
 use Rattle.station.specs.declared.records.DeskRecord.{DeskRecord}
 use Rattle.station.specs.declared.joined.SplitRecord.{SplitRecord}
@@ -61,6 +62,18 @@ use Rattle.station.proofs.transfer.skr_rewrite_request.Reads as rewrite
 use Rattle.station.proofs.transfer.skr_rewrite_response as rewrite-response
 use Rattle.station.proofs.transfer.skr_rewrite_response.Kinds as rewrite-response-kinds
 use Rattle.station.proofs.transfer.skr_rewrite_response.Reads as rewrite-response-reads
+use Rattle.station.proofs.messages.skr_read_message.Kinds as read-message-kinds
+use Rattle.station.proofs.messages.skr_read_message.Reads as read-message-reads
+use Rattle.station.proofs.messages.skr_write_request_message.Kinds as write-request-message-kinds
+use Rattle.station.proofs.messages.skr_write_request_message.Reads as write-request-message-reads
+use Rattle.station.proofs.messages.skr_write_response_message.Kinds as write-response-message-kinds
+use Rattle.station.proofs.messages.skr_write_response_message.Reads as write-response-message-reads
+use Rattle.station.proofs.messages.skr_write_routine_request_message.Kinds as write-routine-request-message-kinds
+use Rattle.station.proofs.messages.skr_write_routine_request_message.Reads as write-routine-request-message-reads
+use Rattle.station.proofs.messages.skr_write_routine_response_message.Kinds as write-routine-response-message-kinds
+use Rattle.station.proofs.messages.skr_write_routine_response_message.Reads as write-routine-response-message-reads
+use Rattle.station.proofs.messages.skr_write_negative.Kinds as write-negative-kinds
+use Rattle.station.proofs.messages.skr_write_negative.Reads as write-negative-reads
 
 -- ---- readers and questions
 pub read-request-determined : Determined 1 read-request-kinds.ps read-request-kinds.r read-request-reads.Post
@@ -80,6 +93,9 @@ why-request-determined κs a x y r₁ r₂ p q = p ∙ sym q
 
 pub why-response-determined : Determined 1 why-response-kinds.ps why-response-kinds.r why-response-reads.Post
 why-response-determined κs a x y r₁ r₂ p q = p ∙ sym q
+
+pub read-message-determined : Determined 1 read-message-kinds.ps read-message-kinds.r read-message-reads.Post
+read-message-determined κs a x y r₁ r₂ p q = p ∙ sym q
 
 pub desk-check-determined : Determined 1 desk-check-kinds.ps desk-check-kinds.r desk-check-reads.Post
 desk-check-determined κs a x y r₁ r₂ p q = p ∙ sym q
@@ -138,3 +154,19 @@ read-batch-determined κs a x y r s p q = (p .0 ∙ sym (q .0), p .1 ∙ sym (q 
 pub split-joined-determined : (κs : Lfts 2) (a : ArgsD split-joined.signature κs) (x y : AtExit (endedOf 2 split-joined-kinds.ps split-joined-kinds.r) κs) (r s : SplitRecord)
     → split-joined-reads.Post κs a r x → split-joined-reads.Post κs a s y → (r ≡ s) × (now (x .1 .0) ≡ now (y .1 .0))
 split-joined-determined κs a x y r s p q = (p .0 ∙ sym (q .0), p .1 ∙ sym (q .1))
+
+-- ---- writers of whole messages, likewise
+pub write-request-message-determined : WritesOnce 2 write-request-message-kinds.ps write-request-message-kinds.r (λ κs x. x .1 .1 .1 .1 .1 .1 .1 .0) write-request-message-reads.Post
+write-request-message-determined κs a x y r₁ r₂ p q = (p .0 ∙ sym (q .0), p .1 ∙ sym (q .1))
+
+pub write-response-message-determined : WritesOnce 2 write-response-message-kinds.ps write-response-message-kinds.r (λ κs x. x .1 .1 .1 .1 .1 .1 .1 .1 .0) write-response-message-reads.Post
+write-response-message-determined κs a x y r₁ r₂ p q = (p .0 ∙ sym (q .0), p .1 ∙ sym (q .1))
+
+pub write-routine-request-message-determined : WritesOnce 2 write-routine-request-message-kinds.ps write-routine-request-message-kinds.r (λ κs x. x .1 .1 .1 .1 .0) write-routine-request-message-reads.Post
+write-routine-request-message-determined κs a x y r₁ r₂ p q = (p .0 ∙ sym (q .0), p .1 ∙ sym (q .1))
+
+pub write-routine-response-message-determined : WritesOnce 2 write-routine-response-message-kinds.ps write-routine-response-message-kinds.r (λ κs x. x .1 .1 .1 .0) write-routine-response-message-reads.Post
+write-routine-response-message-determined κs a x y r₁ r₂ p q = (p .0 ∙ sym (q .0), p .1 ∙ sym (q .1))
+
+pub write-negative-determined : WritesOnce 1 write-negative-kinds.ps write-negative-kinds.r (λ κs x. x .1 .1 .0) write-negative-reads.Post
+write-negative-determined κs a x y r₁ r₂ p q = (p .0 ∙ sym (q .0), p .1 ∙ sym (q .1))

@@ -4,3 +4,4 @@ pub mod Handed
 pub mod Why
 pub mod Batches
 pub mod Joined
+pub mod Messages

@@ -37,7 +37,7 @@ fn refused_read(e: Refusal) -> RoutineRecord
     }
 }
 
-fn bit(b: bool) -> u64
+pub(crate) fn bit(b: bool) -> u64
     ensures { λ r. ⌜ r ≡ bitOf b ⌝ }
 {
     if b { 1 } else { 0 }
@@ -64,7 +64,7 @@ fn accepted_message(
     }
 }
 
-fn accepted_request(q: RoutineControlRequest) -> RoutineRecord
+pub(crate) fn accepted_request(q: RoutineControlRequest) -> RoutineRecord
     ensures { λ r. ⌜ r ≡ acceptedRoutineRequest q ⌝ }
 {
     let sub_function = q.sub_function;
@@ -92,7 +92,7 @@ pub extern "C" fn skr_read_routine_request(message: &[u8]) -> RoutineRecord
     flat_request(read_routine_request(message))
 }
 
-fn accepted_response(q: RoutineControlResponse) -> RoutineRecord
+pub(crate) fn accepted_response(q: RoutineControlResponse) -> RoutineRecord
     ensures { λ r. ⌜ r ≡ acceptedRoutineResponse q ⌝ }
 {
     let sub_function = q.sub_function;

@@ -87,7 +87,7 @@ fn accepted_message(
     }
 }
 
-fn accepted_request(q: RequestFileTransferRequest, tail: usize) -> FileTransferRecord
+pub(crate) fn accepted_request(q: RequestFileTransferRequest, tail: usize) -> FileTransferRecord
     ensures { λ r. ⌜ r ≡ acceptedRequest q tail ⌝ }
 {
     let kind = q.kind;
@@ -118,7 +118,7 @@ pub extern "C" fn skr_read_request(message: &[u8]) -> FileTransferRecord
     flat_request(read_request(message))
 }
 
-fn accepted_response(q: RequestFileTransferResponse, tail: usize) -> FileTransferRecord
+pub(crate) fn accepted_response(q: RequestFileTransferResponse, tail: usize) -> FileTransferRecord
     ensures { λ r. ⌜ r ≡ acceptedResponse q tail ⌝ }
 {
     let kind = q.kind;

@@ -293,7 +293,7 @@ fn response_front(kind: u8, part: usize, width: u16) -> Vec<u8> {
     message
 }
 
-fn response(kind: u8, part: usize, width: u16) -> Vec<u8> {
+pub fn response(kind: u8, part: usize, width: u16) -> Vec<u8> {
     let mut message = response_front(kind, part, width);
     let sizes = if kind == 5 { 1 } else { 2 };
     message.extend((0..sizes * usize::from(width)).map(|i| (7 * i + 1) as u8));

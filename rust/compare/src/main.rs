@@ -10,6 +10,7 @@ mod grid;
 mod items;
 mod joined;
 mod log_model;
+mod message;
 mod model;
 mod names;
 mod null;
@@ -72,6 +73,9 @@ fn main() {
     step(b, "batches at their bounds", batch::bounds);
     step(b, "joined requests of every kind", joined::every_kind);
     step(b, "joined requests at their bounds", joined::bounds);
+    step(b, "negative answers", message::negatives);
+    step(b, "whole messages of every sort", message::chosen);
+    step(b, "whole messages written", message::written);
     if !arguments.quick {
         step(b, "all messages of up to 3 bytes", sweep::short_messages);
         step(b, "messages of 4 to 7 chosen bytes", sweep::chosen_messages);
@@ -98,17 +102,17 @@ fn save(path: &str, recorder: &Recorder) {
 
 /// At least one round, and more until the time is over; the first alone is recorded.
 fn random_rounds(bench: &mut Bench, seed: u64, end: Instant) {
-    // logs are drawn by numbers of their own, so that the recorded answers stay as they are
+    // all but the first are drawn by numbers of their own, so that the recorded answers stay as they are
     let (mut rng, mut logs) = (Rng::new(seed), Rng::new(!seed));
-    // and so are batches
     let mut batches = Rng::new(seed.rotate_left(32));
-    // and joined requests
     let mut joined = Rng::new(!seed.rotate_left(32));
+    let mut messages = Rng::new(seed ^ 0x7F);
     loop {
         random::round(bench, &mut rng);
         replays::round(bench, &mut logs);
         batch::round(bench, &mut batches);
         joined::round(bench, &mut joined);
+        message::round(bench, &mut messages);
         if let Some(recorder) = &mut bench.recorder {
             recorder.end();
         }

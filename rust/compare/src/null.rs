@@ -20,6 +20,7 @@ pub fn pointers(bench: &mut Bench) {
     for sub_function in 0..=4 {
         routines(bench, sub_function);
     }
+    messages(bench);
     // SAFETY (of every block below): each pointer stands with the length of what it points to, or with the length 0.
     writer(bench, Call::RewriteRequest, |m, n, r, k| unsafe {
         c::skr_rewrite_request(m, n, r, k)
@@ -97,6 +98,43 @@ fn readers(bench: &mut Bench) {
         unsafe { c::skr_replay_log(null, 0) },
         flat::replay_log(none),
     );
+}
+
+/// The doors of whole messages.
+fn messages(bench: &mut Bench) {
+    reader(
+        bench,
+        Call::ReadMessage,
+        unsafe { c::skr_read_message(null(), 0) },
+        flat::read_message(&[]),
+    );
+    for kind in 0..=7 {
+        writer(bench, Call::WriteRequestMessage, |p, n, r, k| unsafe {
+            c::skr_write_request_message(kind, p, n, 0x11, 0, 255, 0, 256, r, k)
+        });
+        writer(bench, Call::WriteResponseMessage, |p, n, r, k| unsafe {
+            c::skr_write_response_message(kind, p, n, 0x11, 0, 255, 0, 256, 7, r, k)
+        });
+    }
+    for sub in 0..=4 {
+        writer(
+            bench,
+            Call::WriteRoutineRequestMessage,
+            |p, n, r, k| unsafe {
+                c::skr_write_routine_request_message(true, sub, 0x0203, p, n, r, k)
+            },
+        );
+        writer(
+            bench,
+            Call::WriteRoutineResponseMessage,
+            |p, n, r, k| unsafe { c::skr_write_routine_response_message(sub, 0x0203, p, n, r, k) },
+        );
+    }
+    for service in [0x38, 0x39] {
+        writer(bench, Call::WriteNegative, |_, _, r, k| unsafe {
+            c::skr_write_negative(service, 0x31, r, k)
+        });
+    }
 }
 
 fn reader<T: PartialEq + Debug>(bench: &mut Bench, call: Call, ours: T, wanted: T) {

@@ -93,7 +93,7 @@ fn damaged(rng: &mut Rng, byte: u8) -> u8 {
 }
 
 /// A request, a response or a routine message, its name or record shorter than `most`.
-fn message(rng: &mut Rng, most: usize) -> Vec<u8> {
+pub fn message(rng: &mut Rng, most: usize) -> Vec<u8> {
     match rng.below(5) {
         0 | 1 => request(rng, most),
         2 | 3 => response(rng, most),
@@ -142,7 +142,7 @@ fn routine(rng: &mut Rng, most: usize) -> Vec<u8> {
 }
 
 /// One of the six, and now and then another byte.
-fn kind(rng: &mut Rng) -> u8 {
+pub fn kind(rng: &mut Rng) -> u8 {
     if rng.once_in(16) {
         return rng.byte();
     }
@@ -168,7 +168,7 @@ fn sizes(rng: &mut Rng, width: usize, count: usize) -> Vec<u8> {
 }
 
 /// A name that is shorter than `most`, or a little longer; once in four times with pieces that are not UTF-8.
-fn name(rng: &mut Rng, most: usize) -> Vec<u8> {
+pub fn name(rng: &mut Rng, most: usize) -> Vec<u8> {
     let len = rng.below(most);
     let pieces = if rng.once_in(4) {
         PIECES.len()
@@ -221,7 +221,7 @@ fn character(rng: &mut Rng, lengths: &[usize]) -> char {
 }
 
 /// A number of any magnitude.
-fn size(rng: &mut Rng) -> u128 {
+pub fn size(rng: &mut Rng) -> u128 {
     let whole = u128::from(rng.number()) << 64 | u128::from(rng.number());
     let size = whole >> rng.below(128);
     if rng.once_in(8) {

@@ -25,9 +25,15 @@ pub enum Call {
     WhyResponse,
     ReadBatch,
     SplitJoined,
+    ReadMessage,
+    WriteRequestMessage,
+    WriteResponseMessage,
+    WriteRoutineRequestMessage,
+    WriteRoutineResponseMessage,
+    WriteNegative,
 }
 
-const CALLS: [&str; 21] = [
+const CALLS: [&str; 27] = [
     "requests read",
     "responses read",
     "routine requests read",
@@ -49,6 +55,12 @@ const CALLS: [&str; 21] = [
     "reasons of responses",
     "batches of requests read",
     "joined requests taken apart",
+    "whole messages read",
+    "whole requests written",
+    "whole responses written",
+    "whole routine requests written",
+    "whole routine responses written",
+    "negative answers written",
 ];
 
 /// What no door leads to, in the order of the letters that the recorded list has for it.
@@ -129,9 +141,10 @@ pub enum Rule {
     Why,
     Batch,
     Joined,
+    WholeMessage,
 }
 
-const RULES: [&str; 14] = [
+const RULES: [&str; 15] = [
     "size width 0 or 17 up: refusal 6 with the width",
     "routine request refused with 4: the byte is the low seven bits",
     "too little room: refusal 7, and nothing is written",
@@ -146,6 +159,7 @@ const RULES: [&str; 14] = [
     "why a message is refused: document 02's",
     "batches of messages: ours, as document 02 has them",
     "joined requests: ours, as document 02 has them",
+    "whole messages: document 02's, behind the service byte 01's",
 ];
 
 impl Rule {

@@ -18,7 +18,7 @@ pub struct Transfer<'a> {
 }
 
 impl Transfer<'_> {
-    fn told(&self) -> String {
+    pub fn told(&self) -> String {
         let [uncompressed, compressed] = self.sizes;
         format!(
             "kind {} format {:02X} sizes {uncompressed} {compressed} position {} name or block length {}",
@@ -41,7 +41,7 @@ impl Transfer<'_> {
         .concat()
     }
 
-    fn flat_sizes(&self) -> Sizes {
+    pub fn flat_sizes(&self) -> Sizes {
         Sizes::new(self.sizes[0], self.sizes[1])
     }
 }
@@ -56,7 +56,7 @@ pub struct Routine<'a> {
 }
 
 impl Routine<'_> {
-    fn told(&self) -> String {
+    pub fn told(&self) -> String {
         format!(
             "suppress {} sub-function {:02X} identifier {:04X} record {}",
             self.suppress,
@@ -73,7 +73,7 @@ impl Routine<'_> {
     }
 
     /// The answer where the original is not asked: a sub-function that it cannot be handed, or a record that is too long.
-    fn by_rule(&self) -> Option<(Refusal, Rule)> {
+    pub fn by_rule(&self) -> Option<(Refusal, Rule)> {
         if !(1..=3).contains(&self.sub_function) {
             let refusal = Refusal::new(4, self.sub_function.into(), 0);
             return Some((refusal, Rule::NoSuchValue));
@@ -91,7 +91,7 @@ fn first(message: &[u8]) -> u8 {
 }
 
 /// The answer to a kind that the original cannot be handed.
-fn no_such_kind(kind: u8) -> Option<Refusal> {
+pub fn no_such_kind(kind: u8) -> Option<Refusal> {
     (!(1..=6).contains(&kind)).then(|| Refusal::new(3, kind.into(), 0))
 }
 

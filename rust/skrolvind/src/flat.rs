@@ -129,6 +129,32 @@ pub struct Replay {
     pub total: u64,
 }
 
+/// A whole message that was read: its service byte, and the fields of its sort.
+#[repr(C)]
+#[derive(Clone, Copy, Debug, Default, PartialEq, Eq)]
+pub struct Message {
+    pub number: u64,
+    pub first: u64,
+    pub second: u64,
+    pub service: u64,
+    pub kind: u64,
+    pub start: u64,
+    pub len: u64,
+    pub format: u64,
+    pub uncompressed_high: u64,
+    pub uncompressed_low: u64,
+    pub compressed_high: u64,
+    pub compressed_low: u64,
+    pub position: u64,
+    pub tail: u64,
+    pub suppress: u64,
+    pub sub_function: u64,
+    pub identifier: u64,
+    pub negative_service: u64,
+    pub code: u64,
+    pub listed: u64,
+}
+
 /// The two sizes of a message to be written, in halves.
 #[derive(Clone, Copy, Debug, Default, PartialEq, Eq)]
 pub struct Sizes {
@@ -154,8 +180,8 @@ impl Sizes {
 /// The C functions themselves, over pointers: for those who have to hand over what no slice can be.
 pub mod c {
     use super::{
-        Batch, Desk, FileTransfer, NextTroubleCode, Replay, Routine, Split, Tally, TroubleCode,
-        Why, Written,
+        Batch, Desk, FileTransfer, Message, NextTroubleCode, Replay, Routine, Split, Tally,
+        TroubleCode, Why, Written,
     };
 
     unsafe extern "C" {
@@ -250,6 +276,51 @@ pub mod c {
             payload: u16,
             place: usize,
         ) -> Replay;
+        pub fn skr_read_message(message: *const u8, message_len: usize) -> Message;
+        pub fn skr_write_request_message(
+            kind: u8,
+            name: *const u8,
+            name_len: usize,
+            format: u8,
+            uncompressed_high: u64,
+            uncompressed_low: u64,
+            compressed_high: u64,
+            compressed_low: u64,
+            room: *mut u8,
+            room_len: usize,
+        ) -> Written;
+        pub fn skr_write_response_message(
+            kind: u8,
+            block: *const u8,
+            block_len: usize,
+            format: u8,
+            uncompressed_high: u64,
+            uncompressed_low: u64,
+            compressed_high: u64,
+            compressed_low: u64,
+            position: u64,
+            room: *mut u8,
+            room_len: usize,
+        ) -> Written;
+        pub fn skr_write_routine_request_message(
+            suppress: bool,
+            sub_function: u8,
+            identifier: u16,
+            record: *const u8,
+            record_len: usize,
+            room: *mut u8,
+            room_len: usize,
+        ) -> Written;
+        pub fn skr_write_routine_response_message(
+            sub_function: u8,
+            identifier: u16,
+            record: *const u8,
+            record_len: usize,
+            room: *mut u8,
+            room_len: usize,
+        ) -> Written;
+        pub fn skr_write_negative(service: u8, code: u8, room: *mut u8, room_len: usize)
+        -> Written;
     }
 }
 
@@ -439,4 +510,85 @@ pub fn split_joined(buffer: &[u8], lengths: &mut [u32]) -> Split {
 pub fn replay_log(log: &[u8]) -> Replay {
     // SAFETY: the pointer and the length are those of one slice.
     unsafe { c::skr_replay_log(log.as_ptr(), log.len()) }
+}
+
+/// `skr_read_message`.
+#[must_use]
+#[inline]
+pub fn read_message(message: &[u8]) -> Message {
+    // SAFETY: the pointer and the length are those of one slice.
+    unsafe { c::skr_read_message(message.as_ptr(), message.len()) }
+}
+
+/// `skr_write_request_message`.
+#[inline]
+pub fn write_request_message(
+    kind: u8,
+    name: &[u8],
+    format: u8,
+    s: Sizes,
+    room: &mut [u8],
+) -> Written {
+    let (n, n_len) = (name.as_ptr(), name.len());
+    let (r, r_len) = (room.as_mut_ptr(), room.len());
+    let (uh, ul) = (s.uncompressed_high, s.uncompressed_low);
+    let (ch, cl) = (s.compressed_high, s.compressed_low);
+    // SAFETY: each pointer stands with its own slice's length, and the two slices do not overlap.
+    unsafe { c::skr_write_request_message(kind, n, n_len, format, uh, ul, ch, cl, r, r_len) }
+}
+
+/// `skr_write_response_message`.
+#[inline]
+pub fn write_response_message(
+    kind: u8,
+    block: &[u8],
+    format: u8,
+    s: Sizes,
+    position: u64,
+    room: &mut [u8],
+) -> Written {
+    let (b, b_len) = (block.as_ptr(), block.len());
+    let (r, r_len) = (room.as_mut_ptr(), room.len());
+    let (uh, ul) = (s.uncompressed_high, s.uncompressed_low);
+    let (ch, cl) = (s.compressed_high, s.compressed_low);
+    // SAFETY: each pointer stands with its own slice's length, and the two slices do not overlap.
+    unsafe {
+        c::skr_write_response_message(kind, b, b_len, format, uh, ul, ch, cl, position, r, r_len)
+    }
+}
+
+/// `skr_write_routine_request_message`.
+#[inline]
+pub fn write_routine_request_message(
+    suppress: bool,
+    sub: u8,
+    identifier: u16,
+    record: &[u8],
+    room: &mut [u8],
+) -> Written {
+    let (d, d_len) = (record.as_ptr(), record.len());
+    let (r, r_len) = (room.as_mut_ptr(), room.len());
+    // SAFETY: each pointer stands with its own slice's length, and the two slices do not overlap.
+    unsafe { c::skr_write_routine_request_message(suppress, sub, identifier, d, d_len, r, r_len) }
+}
+
+/// `skr_write_routine_response_message`.
+#[inline]
+pub fn write_routine_response_message(
+    sub: u8,
+    identifier: u16,
+    record: &[u8],
+    room: &mut [u8],
+) -> Written {
+    let (d, d_len) = (record.as_ptr(), record.len());
+    let (r, r_len) = (room.as_mut_ptr(), room.len());
+    // SAFETY: each pointer stands with its own slice's length, and the two slices do not overlap.
+    unsafe { c::skr_write_routine_response_message(sub, identifier, d, d_len, r, r_len) }
+}
+
+/// `skr_write_negative`.
+#[inline]
+pub fn write_negative(service: u8, code: u8, room: &mut [u8]) -> Written {
+    // SAFETY: the pointer and the length are those of one slice.
+    unsafe { c::skr_write_negative(service, code, room.as_mut_ptr(), room.len()) }
 }

@@ -19,6 +19,7 @@
 mod batch;
 pub mod flat;
 mod joined;
+mod message;
 mod read;
 mod replay;
 #[cfg(test)]
@@ -28,6 +29,7 @@ mod write;
 
 pub use batch::*;
 pub use joined::*;
+pub use message::*;
 pub use read::*;
 pub use replay::*;
 pub use types::*;

@@ -31,22 +31,22 @@ fn impossible(number: u64) -> ! {
 }
 
 #[inline]
-fn part(message: &[u8], start: u64, len: u64) -> &[u8] {
+pub(crate) fn part(message: &[u8], start: u64, len: u64) -> &[u8] {
     &message[as_small(start)..][..as_small(len)]
 }
 
 #[inline]
-fn kind(number: u64) -> Kind {
+pub(crate) fn kind(number: u64) -> Kind {
     Kind::from_number(number).expect("the library answers one of the six kinds")
 }
 
 #[inline]
-fn sub_function(number: u64) -> SubFunction {
+pub(crate) fn sub_function(number: u64) -> SubFunction {
     SubFunction::from_number(number).expect("the library answers one of the three sub-functions")
 }
 
 #[inline]
-fn whole(high: u64, low: u64) -> u128 {
+pub(crate) fn whole(high: u64, low: u64) -> u128 {
     u128::from(high) << 64 | u128::from(low)
 }
 

@@ -6,7 +6,7 @@ use crate::{Refusal, Request, Response, RoutineRequest, RoutineResponse};
 
 /// The count always fits: what was written lies in the room, whose length is a `usize`.
 #[inline]
-fn count(w: Written) -> Result<usize, Refusal> {
+pub(crate) fn count(w: Written) -> Result<usize, Refusal> {
     accepted(w.number, w.first, w.second)?;
     Ok(w.written as usize)
 }
