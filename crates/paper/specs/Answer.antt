@@ -76,6 +76,10 @@ wrongCounter place = refusal 14 place 0
 abbrev pub unknownService : ℕ → Refusal
 unknownService place = refusal 15 place 0
 
+-- no record of the listing has the code
+abbrev pub noSuchCode : Refusal
+noSuchCode = refusal 16 0 0
+
 -- ---- answers
 -- what a call answers: 0 with a value, or a refusal. A refusal hands out no field and no tail.
 pub data Answer (A : Type 0) : Type 0 where

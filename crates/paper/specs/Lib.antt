@@ -28,3 +28,4 @@ pub mod Batch
 pub mod Joined
 pub mod WholeMessage
 pub mod MessageProgram
+pub mod Listing

@@ -1,0 +1,148 @@
+-- Document 02, Req 09: trouble-code listings, the answer to ISO 14229-1 ReadDTCInformation, with an index beside them. The sub-function, and with it a record's form, is a parameter of every definition.
+use Prim.Native.Nat.{ℕ, zero, suc, _-_, _/_, _%_, _<_, _≤_}
+use mathlib.Core.Path.{_≡_}
+use mathlib.Core.Bool.{Bool, true, false}
+use mathlib.Core.List.{List, [], _∷_, _++_, map}
+use lib.ListN.{length, getD, drop}
+use lib.Dec.{leb, eqb}
+use Rattle.paper.specs.Choice.{pick, both}
+use Rattle.paper.specs.Answer.{tooShort, cut, outOfRange, tooMany, unknownService, noSuchCode, Answer, accepted, refused, check}
+use Rattle.paper.specs.TroubleCode.{TroubleCode, troubleCode, troubleCodeBytes}
+use Rattle.paper.specs.Tally.{count}
+
+-- ---- the sub-functions, and a record in each
+pub data SubFunction : Type 0 where
+  byStatusMask : SubFunction
+
+abbrev pub subFunctionByte : SubFunction → ℕ
+subFunctionByte byStatusMask = 0x02
+
+-- the shared trouble-code record: a code and its status
+pub record Listed : Type 0 where
+  pub code : TroubleCode
+  pub status : ℕ
+
+abbrev pub listed : TroubleCode → ℕ → Listed
+listed c st = record { code = c; status = st }
+
+abbrev pub recordSize : SubFunction → ℕ
+recordSize byStatusMask = 4
+
+-- the record at the start of some bytes: three code bytes and a status byte
+abbrev pub recordOf : SubFunction → List ℕ → Listed
+recordOf byStatusMask b = listed (troubleCode (getD b 0 0) (getD b 1 0) (getD b 2 0)) (getD b 3 0)
+
+-- and its bytes
+abbrev pub recordBytes : SubFunction → Listed → List ℕ
+recordBytes byStatusMask r = troubleCodeBytes (r .code) ++ (r .status ∷ [])
+
+-- ---- a listing
+pub record Listing : Type 0 where
+  pub subFunction : SubFunction
+  pub mask : ℕ
+  pub records : List Listed
+
+abbrev pub listing : SubFunction → ℕ → List Listed → Listing
+listing f m rs = record { subFunction = f; mask = m; records = rs }
+
+-- its first byte
+abbrev pub answerByte : ℕ
+answerByte = 0x59
+
+-- n records, one after the other
+unfoldable pub recordsIn : SubFunction → ℕ → List ℕ → List Listed
+recordsIn f zero s = []
+recordsIn f (suc n) s = recordOf f s ∷ recordsIn f n (drop (recordSize f) s)
+
+-- how many whole records the bytes after the mask have
+abbrev pub wholeRecords : SubFunction → List ℕ → ℕ
+wholeRecords f s = (length s - 3) / recordSize f
+
+-- ---- reading: 1 for fewer than 3 bytes, 15 for wrong first bytes, 12 for more than 4,096 whole records, 10 for a cut one; none is good
+unfoldable pub readListing : SubFunction → List ℕ → Answer Listing
+readListing f s =
+    check (leb 3 (length s)) (tooShort 3 (length s))
+    (check (both (eqb (getD s 0 0) answerByte) (eqb (getD s 1 0) (subFunctionByte f))) (unknownService 0)
+    (check (leb (wholeRecords f s) 4096) tooMany
+    (check (eqb ((length s - 3) % recordSize f) 0) cut
+    (accepted (listing f (getD s 2 0) (recordsIn f (wholeRecords f s) (drop 3 s)))))))
+
+-- ---- writing
+-- the bytes of records, one after the other
+unfoldable pub recordsBytes : SubFunction → List Listed → List ℕ
+recordsBytes f [] = []
+recordsBytes f (r ∷ rs) = recordBytes f r ++ recordsBytes f rs
+
+-- the two first bytes, the mask, the records
+unfoldable pub listingBytes : Listing → List ℕ
+listingBytes l = answerByte ∷ subFunctionByte (l .subFunction) ∷ l .mask ∷ recordsBytes (l .subFunction) (l .records)
+
+-- 12 for more than 4,096 records (the check of room, 7, comes with the buffer)
+unfoldable pub writeListing : Listing → Answer (List ℕ)
+writeListing l = check (leb (length (l .records)) 4096) tooMany (accepted (listingBytes l))
+
+-- ---- the index
+-- the place of the first element that passes a test, counted from 0; where none does, as many as there are
+unfoldable pub firstPlace : {A : Type 0} → (A → Bool) → List A → ℕ
+firstPlace test [] = 0
+firstPlace test (x ∷ xs) = pick (test x) 0 (suc (firstPlace test xs))
+
+-- the record has this high byte
+abbrev pub hasHigh : ℕ → Listed → Bool
+hasHigh h r = eqb (r .code .high) h
+
+-- how many records have it
+abbrev pub howMany : List Listed → ℕ → ℕ
+howMany rs h = count (hasHigh h) rs
+
+-- and the place of the first, 0 where there is none
+abbrev pub firstWith : List Listed → ℕ → ℕ
+firstWith rs h = pick (eqb (howMany rs h) 0) 0 (firstPlace (hasHigh h) rs)
+
+-- n numbers from k on
+unfoldable pub numbersFrom : ℕ → ℕ → List ℕ
+numbersFrom k zero = []
+numbersFrom k (suc n) = k ∷ numbersFrom (suc k) n
+
+-- for each of the 256 high bytes: how many records have it, and the place of the first
+pub record Index : Type 0 where
+  pub counts : List ℕ
+  pub firsts : List ℕ
+
+unfoldable pub indexOf : List Listed → Index
+indexOf rs = record { counts = map (howMany rs) (numbersFrom 0 256); firsts = map (firstWith rs) (numbersFrom 0 256) }
+
+-- two lists of numbers are the same
+unfoldable pub sameNumbers : List ℕ → List ℕ → Bool
+sameNumbers [] [] = true
+sameNumbers [] (y ∷ ys) = false
+sameNumbers (x ∷ xs) [] = false
+sameNumbers (x ∷ xs) (y ∷ ys) = both (eqb x y) (sameNumbers xs ys)
+
+-- an index is a listing's own if all its counts and first places are
+abbrev pub ownIndex : List Listed → Index → Bool
+ownIndex rs x = both (sameNumbers (x .counts) (indexOf rs .counts)) (sameNumbers (x .firsts) (indexOf rs .firsts))
+
+-- ---- looking up a code
+-- the record has this code
+unfoldable pub hasCode : TroubleCode → Listed → Bool
+hasCode c r = both (eqb (r .code .high) (c .high)) (both (eqb (r .code .middle) (c .middle)) (eqb (r .code .low) (c .low)))
+
+-- a record and its place
+pub record Found : Type 0 where
+  pub place : ℕ
+  pub «record» : Listed
+
+-- the first record that has the code, k being the place of the first of these; else 16
+unfoldable pub find : ℕ → TroubleCode → List Listed → Answer Found
+find k c [] = refused noSuchCode
+find k c (r ∷ rs) = pick (hasCode c r) (accepted (record { place = k; «record» = r })) (find (suc k) c rs)
+
+-- in a listing that was read: 11 for an index that isn't its own, then 16
+abbrev pub lookUpIn : Index → TroubleCode → Answer Listing → Answer Found
+lookUpIn x c (accepted l) = check (ownIndex (l .records) x) (outOfRange 0) (find 0 c (l .records))
+lookUpIn x c (refused e) = refused e
+
+-- reading's refusals first
+unfoldable pub lookUp : SubFunction → List ℕ → Index → TroubleCode → Answer Found
+lookUp f s x c = lookUpIn x c (readListing f s)
