@@ -7,7 +7,7 @@ use mathlib.Core.Bool.{Bool, true, false}
 use mathlib.Core.List.{List, [], _∷_, _++_, map, zipWith, Perm, List·Permᴰ, List·Permᴰ·nil, List·Permᴰ·cons, List·Permᴰ·swap, List·Permᴰ·trans}
 use native.Mathlib.Nat.{zero-add, add-zero, add-suc, suc-add, not-suc-le-zero, le-of-suc-le-suc, eq-or-lt-of-le, ℕ-set}
 use native.Mathlib.Omega.{arith}
-use lib.ListN.{length, getD}
+use lib.ListN.{length, getD, set}
 use lib.Dec.{eqb}
 use borrow.Author.Tests.{eq-eqb, ne-eqb}
 use Rattle.paper.specs.Choice.{pick}
@@ -102,6 +102,27 @@ pub value-at {ℓ} : {B : Type ℓ} (f : ℕ → B) (k n i : ℕ) (d : B) → i 
 value-at f k zero i d h = absurd (not-suc-le-zero h)
 value-at f k (suc n) zero d h = ap f (sym (add-zero k))
 value-at f k (suc n) (suc i) d h = value-at f (suc k) n i d (le-of-suc-le-suc h) ∙ ap f (suc-add k i ∙ sym (add-suc k i))
+
+-- two rules that agree from k on give the same values
+pub values-same {ℓ} : {B : Type ℓ} (f g : ℕ → B) (k n : ℕ) → ((j : ℕ) → k ≤ j → f j ≡ g j) → map f (from k n) ≡ map g (from k n)
+values-same f g k zero h = refl
+values-same f g k (suc n) h =
+    let first : f k ≡ g k = h k (omega arith) in
+    let others : map f (from (suc k) n) ≡ map g (from (suc k) n) = values-same f g (suc k) n (λ j l. h j (omega arith)) in
+    cc
+
+-- a store at place i, where the two rules differ there alone
+pub set-value {ℓ} : {B : Type ℓ} (f g : ℕ → B) (k n i : ℕ) → i < n → ((j : ℕ) → (j ≡ k + i → ⊥) → f j ≡ g j) → set (map f (from k n)) i (g (k + i)) ≡ map g (from k n)
+set-value f g k zero i h e = absurd (not-suc-le-zero h)
+set-value f g k (suc n) zero h e =
+    let here : k + 0 ≡ k = add-zero k in
+    let others : map f (from (suc k) n) ≡ map g (from (suc k) n) = values-same f g (suc k) n (λ j l. e j (λ q. omega arith)) in
+    cc
+set-value f g k (suc n) (suc i) h e =
+    let there : k + suc i ≡ suc k + i = omega arith in
+    let first : f k ≡ g k = e k (λ q. omega arith) in
+    let others : set (map f (from (suc k) n)) i (g (suc k + i)) ≡ map g (from (suc k) n) = set-value f g (suc k) n i (le-of-suc-le-suc h) (λ j l. e j (λ q. l (omega arith))) in
+    cc
 
 -- ---- lists of values
 pub map-same {ℓ} : {B : Type ℓ} (f g : ℕ → B) (ks : List ℕ) → ((k : ℕ) → f k ≡ g k) → map f ks ≡ map g ks

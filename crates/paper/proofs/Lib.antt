@@ -34,3 +34,6 @@ pub mod Joined
 pub mod JoinedVectors
 pub mod WholeMessage
 pub mod MessageVectors
+pub mod Listing
+pub mod ListingIndex
+pub mod ListingVectors

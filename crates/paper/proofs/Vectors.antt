@@ -6,7 +6,7 @@ use mathlib.Core.Bool.{true, false}
 use mathlib.Core.List.{List, [], _∷_, _++_, map}
 use lib.ListN.{replicate}
 use Rattle.paper.specs.Answer.{Refusal, refusal, tooShort, wrongFormat, unknownMode, unknownSubFunction, noTroubleCode, badWidth, noRoom}
-use Rattle.paper.specs.Answer.{unequalSizes, leftOver, cut, outOfRange, tooMany, notAllowed, wrongCounter, unknownService, accepted, refused, _leaving_, _>>=_, give, refuse, over, written}
+use Rattle.paper.specs.Answer.{unequalSizes, leftOver, cut, outOfRange, tooMany, notAllowed, wrongCounter, unknownService, noSuchCode, accepted, refused, _leaving_, _>>=_, give, refuse, over, written}
 use Rattle.paper.specs.Bytes.{ofBytes, toBytes}
 use Rattle.paper.specs.Utf8.{inRange, begins, firstRow, charLength, validFrom, validUpTo, isUtf8}
 use Rattle.paper.specs.Sizes.{fit, firstFit, width, less, equal, greater, compare}
@@ -20,8 +20,8 @@ use Rattle.paper.specs.RoutineControl.{wholeRest, readRoutineRequest, re
 use Rattle.paper.specs.Desk.{deskCheck}
 
 -- the table of refusals: the number of each, and what it carries
-refusals : map {B = ℕ × ℕ × ℕ} (λ (r : Refusal). (r .number, r .first, r .second)) (tooShort 4 3 ∷ wrongFormat 150 ∷ unknownMode 7 ∷ unknownSubFunction 9 ∷ noTroubleCode 0x01000000 ∷ badWidth 17 ∷ noRoom 4 3 ∷ unequalSizes ∷ leftOver 5 ∷ cut ∷ outOfRange 3 ∷ tooMany ∷ notAllowed 4 ∷ wrongCounter 5 ∷ unknownService 6 ∷ [])
-    ≡ (1, 4, 3) ∷ (2, 150, 0) ∷ (3, 7, 0) ∷ (4, 9, 0) ∷ (5, 0x01000000, 0) ∷ (6, 17, 0) ∷ (7, 4, 3) ∷ (8, 0, 0) ∷ (9, 5, 0) ∷ (10, 0, 0) ∷ (11, 3, 0) ∷ (12, 0, 0) ∷ (13, 4, 0) ∷ (14, 5, 0) ∷ (15, 6, 0) ∷ []
+refusals : map {B = ℕ × ℕ × ℕ} (λ (r : Refusal). (r .number, r .first, r .second)) (tooShort 4 3 ∷ wrongFormat 150 ∷ unknownMode 7 ∷ unknownSubFunction 9 ∷ noTroubleCode 0x01000000 ∷ badWidth 17 ∷ noRoom 4 3 ∷ unequalSizes ∷ leftOver 5 ∷ cut ∷ outOfRange 3 ∷ tooMany ∷ notAllowed 4 ∷ wrongCounter 5 ∷ unknownService 6 ∷ noSuchCode ∷ [])
+    ≡ (1, 4, 3) ∷ (2, 150, 0) ∷ (3, 7, 0) ∷ (4, 9, 0) ∷ (5, 0x01000000, 0) ∷ (6, 17, 0) ∷ (7, 4, 3) ∷ (8, 0, 0) ∷ (9, 5, 0) ∷ (10, 0, 0) ∷ (11, 3, 0) ∷ (12, 0, 0) ∷ (13, 4, 0) ∷ (14, 5, 0) ∷ (15, 6, 0) ∷ (16, 0, 0) ∷ []
 refusals = refl
 
 -- 2^64 - 1 takes 8 bytes, 2^64 takes 9, 2^128 - 1 takes 16, and two zeros take 1

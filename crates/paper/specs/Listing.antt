@@ -3,10 +3,12 @@ use Prim.Native.Nat.{ℕ, zero, suc, _-_, _/_, _%_, _<_, _≤_}
 use mathlib.Core.Path.{_≡_}
 use mathlib.Core.Bool.{Bool, true, false}
 use mathlib.Core.List.{List, [], _∷_, _++_, map}
-use lib.ListN.{length, getD, drop}
+use mathlib.Core.Option.{Option, none, some}
+use lib.ListN.{length, getD, getElem?, drop, replicate}
 use lib.Dec.{leb, eqb}
 use Rattle.paper.specs.Choice.{pick, both}
 use Rattle.paper.specs.Answer.{tooShort, cut, outOfRange, tooMany, unknownService, noSuchCode, Answer, accepted, refused, check}
+use Rattle.paper.specs.Bytes.{Bytes}
 use Rattle.paper.specs.TroubleCode.{TroubleCode, troubleCode, troubleCodeBytes}
 use Rattle.paper.specs.Tally.{count}
 
@@ -67,6 +69,20 @@ readListing f s =
     (check (eqb ((length s - 3) % recordSize f) 0) cut
     (accepted (listing f (getD s 2 0) (recordsIn f (wholeRecords f s) (drop 3 s)))))))
 
+-- the listing stays in its message; what a reader hands out of it is the mask, and how many records there are
+pub record Head : Type 0 where
+  pub mask : ℕ
+  pub records : ℕ
+
+abbrev pub headOf : Answer Listing → Answer Head
+headOf (accepted l) = accepted (record { mask = l .mask; records = length (l .records) })
+headOf (refused e) = refused e
+
+-- and the record at a place: none past the end, and none of a listing that is refused
+abbrev pub recordAt : ℕ → Answer Listing → Option Listed
+recordAt k (accepted l) = getElem? (l .records) k
+recordAt k (refused e) = none
+
 -- ---- writing
 -- the bytes of records, one after the other
 unfoldable pub recordsBytes : SubFunction → List Listed → List ℕ
@@ -80,6 +96,31 @@ listingBytes l = answerByte ∷ subFunctionByte (l .subFunction) ∷ l .mask ∷
 -- 12 for more than 4,096 records (the check of room, 7, comes with the buffer)
 unfoldable pub writeListing : Listing → Answer (List ℕ)
 writeListing l = check (leb (length (l .records)) 4096) tooMany (accepted (listingBytes l))
+
+-- records as a caller hands them over: three code bytes and a status byte each, whatever the sub-function
+abbrev pub handedSize : ℕ
+handedSize = 4
+
+abbrev pub handedOf : List ℕ → Listed
+handedOf b = listed (troubleCode (getD b 0 0) (getD b 1 0) (getD b 2 0)) (getD b 3 0)
+
+unfoldable pub handedIn : ℕ → List ℕ → List Listed
+handedIn zero b = []
+handedIn (suc n) b = handedOf b ∷ handedIn n (drop handedSize b)
+
+-- 12 for more than 4,096 whole ones, then 10 for a cut one (and then 7, with the buffer)
+unfoldable pub writeHanded : SubFunction → ℕ → List ℕ → Answer (List ℕ)
+writeHanded f m b =
+    check (leb (length b / handedSize) 4096) tooMany
+    (check (eqb (length b % handedSize) 0) cut
+    (writeListing (listing f m (handedIn (length b / handedSize) b))))
+
+-- a listing's way of being written: its sub-function, few enough records, its numbers bytes
+pub record ListingWay (f : SubFunction) (l : Listing) (s : List ℕ) : Type 0 where
+  pub kind : l .subFunction ≡ f
+  pub few : length (l .records) ≤ 4096
+  pub bytes : Bytes (listingBytes l)
+  pub is : s ≡ listingBytes l
 
 -- ---- the index
 -- the place of the first element that passes a test, counted from 0; where none does, as many as there are
@@ -111,6 +152,14 @@ pub record Index : Type 0 where
 
 unfoldable pub indexOf : List Listed → Index
 indexOf rs = record { counts = map (howMany rs) (numbersFrom 0 256); firsts = map (firstWith rs) (numbersFrom 0 256) }
+
+-- the index of a listing that was read, and all zeros where it is refused
+abbrev pub zeroIndex : Index
+zeroIndex = record { counts = replicate 256 0; firsts = replicate 256 0 }
+
+abbrev pub indexIn : Answer Listing → Index
+indexIn (accepted l) = indexOf (l .records)
+indexIn (refused e) = zeroIndex
 
 -- two lists of numbers are the same
 unfoldable pub sameNumbers : List ℕ → List ℕ → Bool
@@ -146,3 +195,14 @@ lookUpIn x c (refused e) = refused e
 -- reading's refusals first
 unfoldable pub lookUp : SubFunction → List ℕ → Index → TroubleCode → Answer Found
 lookUp f s x c = lookUpIn x c (readListing f s)
+
+-- ---- what is to hold of a lookup, said by places
+-- the first record that has the code: it stands at its place, it has the code, and no record before it has
+pub record First (c : TroubleCode) (rs : List Listed) (x : Found) : Type 0 where
+  pub stands : getElem? rs (x .place) ≡ some (x .«record»)
+  pub has : x .«record» .code ≡ c
+  pub earlier : (k : ℕ) (r : Listed) → k < x .place → getElem? rs k ≡ some r → r .code ≡ c → ⊥
+
+-- no record has it
+abbrev pub NoneHas : TroubleCode → List Listed → Type 0
+NoneHas c rs = (k : ℕ) (r : Listed) → getElem? rs k ≡ some r → r .code ≡ c → ⊥

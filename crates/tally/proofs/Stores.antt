@@ -3,37 +3,16 @@
 use mathlib.Core.Path.{_≡_, refl, sym, ap, _∙_}
 use Prim.Native.Nat.{ℕ, zero, suc, _+_, _*_, _≤_, _<_}
 use mathlib.Core.List.{List, [], _∷_, _++_, map}
-use native.Mathlib.Nat.{add-zero, not-suc-le-zero, le-of-suc-le-suc}
+use native.Mathlib.Nat.{add-zero}
 use native.Mathlib.Numerals.{add-one}
 use native.Mathlib.Omega.{arith}
 use lib.ListN.{getD, take, set, replicate}
 use lib.Seq.{length-take-le, take-all, take-suc}
 use borrow.Author.Tests.{eq-eqb, ne-eqb}
 use Rattle.paper.specs.Tally.{Entry, entryOf, wholeRecords, records, count, ofMonthAndNumber, table}
-use Rattle.paper.proofs.Count.{count-append, count-le, from, value-at}
+use Rattle.paper.proofs.Count.{count-append, count-le, from, value-at, values-same, set-value}
 use Rattle.paper.proofs.Tally.{length-records, record-stands}
 use Rattle.tally.proofs.Turns.{recordAt}
-
--- ---- values of numbers in a row
-values-same {ℓ} : {B : Type ℓ} (f g : ℕ → B) (k n : ℕ) → ((j : ℕ) → k ≤ j → f j ≡ g j) → map f (from k n) ≡ map g (from k n)
-values-same f g k zero h = refl
-values-same f g k (suc n) h =
-    let first : f k ≡ g k = h k (omega arith) in
-    let others : map f (from (suc k) n) ≡ map g (from (suc k) n) = values-same f g (suc k) n (λ j l. h j (omega arith)) in
-    cc
-
--- a store at place i, where the two rules differ there alone
-set-value {ℓ} : {B : Type ℓ} (f g : ℕ → B) (k n i : ℕ) → i < n → ((j : ℕ) → (j ≡ k + i → ⊥) → f j ≡ g j) → set (map f (from k n)) i (g (k + i)) ≡ map g (from k n)
-set-value f g k zero i h e = absurd (not-suc-le-zero h)
-set-value f g k (suc n) zero h e =
-    let here : k + 0 ≡ k = add-zero k in
-    let others : map f (from (suc k) n) ≡ map g (from (suc k) n) = values-same f g (suc k) n (λ j l. e j (λ q. omega arith)) in
-    cc
-set-value f g k (suc n) (suc i) h e =
-    let there : k + suc i ≡ suc k + i = omega arith in
-    let first : f k ≡ g k = e k (λ q. omega arith) in
-    let others : set (map f (from (suc k) n)) i (g (suc k + i)) ≡ map g (from (suc k) n) = set-value f g (suc k) n i (le-of-suc-le-suc h) (λ j l. e j (λ q. l (omega arith))) in
-    cc
 
 -- ---- a table of M months from a on by R numbers from b on: with 12 and 10 in their places it would be written out wherever it stands
 abbrev rowOf : (b R : ℕ) → List Entry → ℕ → List ℕ

@@ -1,0 +1,158 @@
+-- Document 02, Req 09: what some listings answer, an index and some lookups, by computing the definitions.
+-- Assumes nothing.
+use mathlib.Core.Path.{_≡_, refl}
+use Prim.Native.Nat.{ℕ}
+use mathlib.Core.List.{List, [], _∷_, _++_, map}
+use mathlib.Core.Option.{Option, none, some}
+use lib.ListN.{length, getD, set, replicate}
+use Rattle.paper.specs.Answer.{refusal, Answer, accepted, refused, over, written}
+use Rattle.paper.specs.TroubleCode.{TroubleCode, troubleCode}
+use Rattle.paper.specs.Tally.{count, sum}
+use Rattle.paper.specs.Listing.{byStatusMask, subFunctionByte, Listed, listed, Listing, listing, recordsIn, readListing, Head, headOf, recordAt, recordsBytes, listingBytes, writeListing, handedIn, writeHanded}
+use Rattle.paper.specs.Listing.{firstPlace, numbersFrom, Index, indexOf, zeroIndex, indexIn, sameNumbers, hasCode, Found, find, lookUp}
+
+-- ---- reading
+-- a row: the message, and what reading it answers
+abbrev rows : List (List ℕ × Answer Listing)
+rows =
+    -- no record is good; the mask is no record
+    (0x59 ∷ 0x02 ∷ 0xFF ∷ [], accepted (listing byStatusMask 0xFF []))
+    ∷ (0x59 ∷ 0x02 ∷ 0x00 ∷ 0x03 ∷ 0x01 ∷ 0x11 ∷ 0x2F ∷ [], accepted (listing byStatusMask 0x00 (listed (troubleCode 0x03 0x01 0x11) 0x2F ∷ [])))
+    ∷ (0x59 ∷ 0x02 ∷ 0x7F ∷ 0x03 ∷ 0x01 ∷ 0x11 ∷ 0x2F ∷ 0xC1 ∷ 0x00 ∷ 0x00 ∷ 0x08 ∷ [], accepted (listing byStatusMask 0x7F (listed (troubleCode 0x03 0x01 0x11) 0x2F ∷ listed (troubleCode 0xC1 0x00 0x00) 0x08 ∷ [])))
+    -- fewer than three bytes, whatever they are
+    ∷ ([], refused (refusal 1 3 0))
+    ∷ (0x59 ∷ 0x02 ∷ [], refused (refusal 1 3 2))
+    ∷ (0x00 ∷ 0x00 ∷ [], refused (refusal 1 3 2))
+    -- wrong first bytes, a cut record or not
+    ∷ (0x19 ∷ 0x02 ∷ 0xFF ∷ [], refused (refusal 15 0 0))
+    ∷ (0x59 ∷ 0x01 ∷ 0xFF ∷ [], refused (refusal 15 0 0))
+    ∷ (0x59 ∷ 0x0A ∷ 0xFF ∷ 0x03 ∷ [], refused (refusal 15 0 0))
+    -- a cut record
+    ∷ (0x59 ∷ 0x02 ∷ 0xFF ∷ 0x03 ∷ [], refused (refusal 10 0 0))
+    ∷ (0x59 ∷ 0x02 ∷ 0xFF ∷ 0x03 ∷ 0x01 ∷ 0x11 ∷ [], refused (refusal 10 0 0))
+    ∷ (0x59 ∷ 0x02 ∷ 0xFF ∷ 0x03 ∷ 0x01 ∷ 0x11 ∷ 0x2F ∷ 0xC1 ∷ [], refused (refusal 10 0 0))
+    ∷ []
+
+pub rows-right : map (λ (r : List ℕ × Answer Listing). readListing byStatusMask (r .0)) rows ≡ map (λ (r : List ℕ × Answer Listing). r .1) rows
+unfolding recordsIn readListing
+rows-right = refl
+
+-- n zeros after the head: 4,096 records are taken, a cut one after them is seen, and one whole one more is too many, a cut one after it or not
+abbrev zeros : ℕ → List ℕ
+zeros n = 0x59 ∷ 0x02 ∷ 0xFF ∷ replicate n 0
+
+abbrev head : ℕ → ℕ → Answer Head
+head m n = accepted (record { mask = m; records = n })
+
+pub limit : map (λ (n : ℕ). headOf (readListing byStatusMask (zeros n))) (16384 ∷ 16387 ∷ 16388 ∷ 16389 ∷ []) ≡ head 0xFF 4096 ∷ refused (refusal 10 0 0) ∷ refused (refusal 12 0 0) ∷ refused (refusal 12 0 0) ∷ []
+unfolding recordsIn readListing
+limit = refl
+
+-- ---- three records, of which the first and the last have one code
+abbrev first : Listed
+first = listed (troubleCode 0x03 0x01 0x11) 0x2F
+
+abbrev second : Listed
+second = listed (troubleCode 0xC1 0x00 0x00) 0x08
+
+abbrev third : Listed
+third = listed (troubleCode 0x03 0x01 0x11) 0x09
+
+abbrev message : List ℕ
+message = 0x59 ∷ 0x02 ∷ 0x7F ∷ 0x03 ∷ 0x01 ∷ 0x11 ∷ 0x2F ∷ 0xC1 ∷ 0x00 ∷ 0x00 ∷ 0x08 ∷ 0x03 ∷ 0x01 ∷ 0x11 ∷ 0x09 ∷ []
+
+-- by place: none past the end, and none of a listing that is refused
+pub places : map (λ (k : ℕ). recordAt k (readListing byStatusMask message)) (0 ∷ 1 ∷ 2 ∷ 3 ∷ 4096 ∷ []) ++ (recordAt 0 (readListing byStatusMask (0x5A ∷ message)) ∷ [])
+    ≡ some first ∷ some second ∷ some third ∷ none ∷ none ∷ none ∷ []
+unfolding recordsIn readListing
+places = refl
+
+-- the index: two records have high byte 0x03, the first of all among them; one has 0xC1, at place 1; no other byte has any, and there is 0
+abbrev index : Index
+index = indexIn (readListing byStatusMask message)
+
+abbrev highs : List ℕ
+highs = 0x00 ∷ 0x02 ∷ 0x03 ∷ 0x04 ∷ 0xC0 ∷ 0xC1 ∷ 0xC2 ∷ 0xFF ∷ []
+
+pub index-right : (map (λ (h : ℕ). getD (index .counts) h 9) highs ≡ 0 ∷ 0 ∷ 2 ∷ 0 ∷ 0 ∷ 1 ∷ 0 ∷ 0 ∷ [])
+    × (map (λ (h : ℕ). getD (index .firsts) h 9) highs ≡ 0 ∷ 0 ∷ 0 ∷ 0 ∷ 0 ∷ 1 ∷ 0 ∷ 0 ∷ [])
+    × (length (index .counts) ∷ length (index .firsts) ∷ sum (index .counts) ∷ sum (index .firsts) ∷ [] ≡ 256 ∷ 256 ∷ 3 ∷ 1 ∷ [])
+unfolding recordsIn readListing firstPlace numbersFrom indexOf count sum
+index-right = (refl, refl, refl)
+
+-- of a listing that is refused
+pub index-refused : indexIn (readListing byStatusMask []) ≡ zeroIndex
+unfolding readListing
+index-refused = refl
+
+-- ---- lookups
+-- indexes that are not this listing's own: the first of a high byte that no record has
+abbrev wrong-first : Index
+wrong-first = record { counts = index .counts; firsts = set (index .firsts) 0x10 1 }
+
+-- a count
+abbrev wrong-count : Index
+wrong-count = record { counts = set (index .counts) 0x03 1; firsts = index .firsts }
+
+-- the last of two records, for the first
+abbrev late-first : Index
+late-first = record { counts = index .counts; firsts = set (index .firsts) 0x03 2 }
+
+-- another length
+abbrev longer : Index
+longer = record { counts = index .counts ++ (0 ∷ []); firsts = index .firsts }
+
+-- another listing's
+abbrev other : Index
+other = zeroIndex
+
+-- a row: the message, the index, the code, and what the lookup answers
+abbrev Row : Type 0
+Row = List ℕ × Index × TroubleCode × Answer Found
+
+abbrev at-place : ℕ → Listed → Answer Found
+at-place k r = accepted (record { place = k; «record» = r })
+
+abbrev lookups : List Row
+lookups =
+    -- the first of two records with the code
+    (message, index, troubleCode 0x03 0x01 0x11, at-place 0 first)
+    ∷ (message, index, troubleCode 0xC1 0x00 0x00, at-place 1 second)
+    -- a high byte that is there, and a code that is not; a high byte that is not
+    ∷ (message, index, troubleCode 0x03 0x01 0x12, refused (refusal 16 0 0))
+    ∷ (message, index, troubleCode 0x03 0x02 0x11, refused (refusal 16 0 0))
+    ∷ (message, index, troubleCode 0x10 0x01 0x11, refused (refusal 16 0 0))
+    -- the last record
+    ∷ (0x59 ∷ 0x02 ∷ 0x7F ∷ 0x03 ∷ 0x01 ∷ 0x12 ∷ 0x2F ∷ 0xC1 ∷ 0x00 ∷ 0x00 ∷ 0x08 ∷ 0x03 ∷ 0x01 ∷ 0x11 ∷ 0x09 ∷ [], index, troubleCode 0x03 0x01 0x11, at-place 2 third)
+    -- an index that is not this listing's own, whatever the code
+    ∷ (message, wrong-first, troubleCode 0x03 0x01 0x11, refused (refusal 11 0 0))
+    ∷ (message, wrong-first, troubleCode 0x03 0x01 0x12, refused (refusal 11 0 0))
+    ∷ (message, wrong-count, troubleCode 0xC1 0x00 0x00, refused (refusal 11 0 0))
+    ∷ (message, late-first, troubleCode 0xC1 0x00 0x00, refused (refusal 11 0 0))
+    ∷ (message, longer, troubleCode 0xC1 0x00 0x00, refused (refusal 11 0 0))
+    ∷ (message, other, troubleCode 0xC1 0x00 0x00, refused (refusal 11 0 0))
+    -- no record, and its index of zeros; a listing that is refused, whatever the index
+    ∷ (0x59 ∷ 0x02 ∷ 0x7F ∷ [], other, troubleCode 0x03 0x01 0x11, refused (refusal 16 0 0))
+    ∷ (0x59 ∷ 0x02 ∷ [], wrong-first, troubleCode 0x03 0x01 0x11, refused (refusal 1 3 2))
+    ∷ (0x59 ∷ message, other, troubleCode 0x03 0x01 0x11, refused (refusal 15 0 0))
+    ∷ (message ++ (0x03 ∷ []), other, troubleCode 0x03 0x01 0x11, refused (refusal 10 0 0))
+    ∷ []
+
+pub lookups-right : map (λ (r : Row). lookUp byStatusMask (r .0) (r .1) (r .2)) lookups ≡ map (λ (r : Row). r .3) lookups
+unfolding recordsIn readListing firstPlace numbersFrom indexOf count sameNumbers hasCode find lookUp
+lookups-right = refl
+
+-- ---- writing
+-- a listing, and the same from records that are handed over; a cut one is refused
+pub writes : writeListing (listing byStatusMask 0x7F (first ∷ second ∷ third ∷ [])) ∷ writeHanded byStatusMask 0x7F (0x03 ∷ 0x01 ∷ 0x11 ∷ 0x2F ∷ 0xC1 ∷ 0x00 ∷ 0x00 ∷ 0x08 ∷ 0x03 ∷ 0x01 ∷ 0x11 ∷ 0x09 ∷ []) ∷ writeHanded byStatusMask 0x7F [] ∷ writeHanded byStatusMask 0x7F (0x03 ∷ 0x01 ∷ 0x11 ∷ []) ∷ []
+    ≡ accepted message ∷ accepted message ∷ accepted (0x59 ∷ 0x02 ∷ 0x7F ∷ []) ∷ refused (refusal 10 0 0) ∷ []
+unfolding recordsBytes listingBytes writeListing handedIn writeHanded
+writes = refl
+
+-- more than 4,096 whole records come before a cut one, and both before the room; with just enough room all bytes are written, the others stay
+pub written-limits : (writeHanded byStatusMask 0x7F (replicate 16389 0) ≡ refused (refusal 12 0 0))
+    × (written (writeHanded byStatusMask 0x7F (replicate 3 0)) [] ≡ record { answer = refused (refusal 10 0 0); contents = [] })
+    × (written (writeHanded byStatusMask 0x7F (replicate 4 1)) (replicate 6 9) ≡ record { answer = refused (refusal 7 7 6); contents = replicate 6 9 })
+    × (written (writeHanded byStatusMask 0x7F (replicate 4 1)) (replicate 8 9) ≡ record { answer = accepted 7; contents = 0x59 ∷ 0x02 ∷ 0x7F ∷ 1 ∷ 1 ∷ 1 ∷ 1 ∷ 9 ∷ [] })
+unfolding recordsBytes listingBytes writeListing handedIn writeHanded over
+written-limits = (refl, refl, refl, refl)
