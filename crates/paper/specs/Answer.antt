@@ -56,7 +56,7 @@ leftOver n = refusal 9 n 0
 abbrev pub cut : Refusal
 cut = refusal 10 0 0
 
--- the record at this place has a field out of its range
+-- the record at this place has a field out of its range; or an index is not the listing's own, with 0
 abbrev pub outOfRange : ℕ → Refusal
 outOfRange place = refusal 11 place 0
 
@@ -72,7 +72,7 @@ notAllowed place = refusal 13 place 0
 abbrev pub wrongCounter : ℕ → Refusal
 wrongCounter place = refusal 14 place 0
 
--- the record at this place has a service byte that is none of a transfer's
+-- the record at this place has a service byte that is none of a transfer's; or the first bytes are not a listing's, with 0
 abbrev pub unknownService : ℕ → Refusal
 unknownService place = refusal 15 place 0
 

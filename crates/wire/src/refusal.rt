@@ -23,7 +23,7 @@ pub enum Refusal {
     LeftOver(usize),
     // 10: the length is no whole number of records: the last one is cut.
     Cut,
-    // 11: the record at this place has a field out of its range.
+    // 11: the record at this place has a field out of its range; or an index is not the listing's own, with 0.
     OutOfRange { place: usize },
     // 12: there are more whole records than the call takes.
     TooMany,
@@ -31,8 +31,10 @@ pub enum Refusal {
     NotAllowed { place: usize },
     // 14: the block at this place has neither the next counter nor the last one.
     WrongCounter { place: usize },
-    // 15: the record at this place has a service byte that is none of a transfer's.
+    // 15: the record at this place has a service byte that is none of a transfer's; or the first bytes are not a listing's, with 0.
     UnknownService { place: usize },
+    // 16: no record of the listing has the code.
+    NoSuchCode,
 }
 
 impl Refusal {
@@ -59,6 +61,7 @@ impl Refusal {
             Refusal::NotAllowed { place: _ } => 13,
             Refusal::WrongCounter { place: _ } => 14,
             Refusal::UnknownService { place: _ } => 15,
+            Refusal::NoSuchCode => 16,
         }
     }
 
@@ -85,6 +88,7 @@ impl Refusal {
             Refusal::NotAllowed { place } => place,
             Refusal::WrongCounter { place } => place,
             Refusal::UnknownService { place } => place,
+            Refusal::NoSuchCode => 0,
         }
     }
 
@@ -111,6 +115,7 @@ impl Refusal {
             Refusal::NotAllowed { place: _ } => 0,
             Refusal::WrongCounter { place: _ } => 0,
             Refusal::UnknownService { place: _ } => 0,
+            Refusal::NoSuchCode => 0,
         }
     }
 }
