@@ -107,6 +107,30 @@ typedef struct {
     uint64_t suppress, sub_function, identifier;
     uint64_t negative_service, code, listed;
 } skr_message;
+/* The head of a trouble-code listing: its availability mask, and how many records it has. */
+typedef struct {
+    uint64_t number, first, second;
+    uint64_t mask, count;
+} skr_listing;
+
+/* A record of a listing: `found` is 1, or 0 past the last record, and then the others are 0. */
+typedef struct {
+    uint64_t number, first, second;
+    uint64_t found, high, middle, low, status;
+} skr_listed;
+
+/* The index of a listing, by the high byte of a code: counts[high] is how many records have it, firsts[high] the place (from 0)
+ * of the first of them, 0 where there is none. After a refusal all are 0. */
+typedef struct {
+    uint64_t number, first, second;
+    uint32_t counts[256], firsts[256];
+} skr_index;
+
+/* The first record of a listing that has a code, and its place. */
+typedef struct {
+    uint64_t number, first, second;
+    uint64_t place, high, middle, low, status;
+} skr_found;
 
 /* Reads a file transfer request from the start of the message. */
 skr_file_transfer skr_read_request(const uint8_t *message, size_t message_len);
@@ -221,6 +245,27 @@ skr_written skr_write_routine_response_message(uint8_t sub_function, uint16_t id
 /* Writes a negative answer: 0x7F, the service, the code, which need not be listed. 11 for a service that is neither 0x38 nor 0x31,
  * then 7. */
 skr_written skr_write_negative(uint8_t service, uint8_t code, uint8_t *room, size_t room_len);
+/* Reads a trouble-code listing, the answer to ReadDTCInformation: bytes 59 and `sub`, the availability mask, then records. `sub`
+ * is 0x02: three code bytes and a status byte each. The listing stays where it is. Refusals: 15 for a `sub` that does not exist;
+ * 1 for fewer than 3 bytes; 15 for wrong first bytes; 12 for more than 4,096 whole records; 10 for a cut one. None is good. */
+skr_listing skr_read_listing(uint8_t sub, const uint8_t *listing, size_t listing_len);
+
+/* The record at a place, counted from 0. Any place may be asked for. Refusals as for reading. */
+skr_listed skr_listing_record(uint8_t sub, const uint8_t *listing, size_t listing_len, size_t place);
+
+/* The index of a listing. Refusals as for reading. */
+skr_index skr_listing_index(uint8_t sub, const uint8_t *listing, size_t listing_len);
+
+/* The first record that has the code. Refusals as for reading, then 11 where counts and firsts, 256 each, are not those of this
+ * very listing, then 16 exactly if no record has the code. */
+skr_found skr_listing_lookup(uint8_t sub, const uint8_t *listing, size_t listing_len,
+                             const uint32_t *counts, size_t counts_len, const uint32_t *firsts, size_t firsts_len,
+                             uint8_t high, uint8_t middle, uint8_t low);
+
+/* Writes a listing at the start of the room, from records of four bytes each: three code bytes and a status byte. Refusals: 15
+ * for a `sub` that does not exist, 12 for more than 4,096 whole records, 10 where records_len is no multiple of four, 7. */
+skr_written skr_write_listing(uint8_t sub, uint8_t mask, const uint8_t *records, size_t records_len,
+                              uint8_t *room, size_t room_len);
 
 #ifdef __cplusplus
 }

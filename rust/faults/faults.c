@@ -1,4 +1,4 @@
-/* One fault at a time in front of the library, to see that the comparison finds it: SKROLVIND_FAULT is its number, 1 to 78; with 0 there is none.
+/* One fault at a time in front of the library, to see that the comparison finds it: SKROLVIND_FAULT is its number, 1 to 88; with 0 there is none.
  * Each function calls the library's own, which `try` has given the prefix real_, and spoils the answer. `try` counts the lines that have FAULT ==. */
 #include <stdlib.h>
 #include <string.h>
@@ -226,3 +226,39 @@ DOOR(skr_written, skr_write_negative, (uint8_t s, uint8_t c, uint8_t *r, size_t 
      skr_written w = real_skr_write_negative(s, c, r, rn);
      if (FAULT == 78 && w.number == 11 && rn < 3) { w.number = 7; w.first = 3; w.second = rn; } /* 7 before 11 */
      return w;)
+
+/* How many whole records a listing has, and whether the one at a place has a code. */
+#define RECORDS(n) (((n) - 3) / 4)
+#define HAS(m, i, h, d, l) ((m)[3 + 4 * (i)] == (h) && (m)[4 + 4 * (i)] == (d) && (m)[5 + 4 * (i)] == (l))
+
+DOOR(skr_listing, skr_read_listing, (uint8_t s, const uint8_t *m, size_t n),
+     skr_listing r = real_skr_read_listing(s, m, n);
+     if (FAULT == 79 && r.count == 4096) { r.number = 12; r.mask = 0; r.count = 0; } /* 4,096 records are too many */
+     if (FAULT == 80 && r.number == 10) { r.number = 0; r.mask = m[2]; r.count = RECORDS(n); } /* a cut record is passed over */
+     return r;)
+
+DOOR(skr_listed, skr_listing_record, (uint8_t s, const uint8_t *m, size_t n, size_t p),
+     skr_listed r = real_skr_listing_record(s, m, n, p);
+     if (FAULT == 81 && !r.number && !r.found && n > 3) r = real_skr_listing_record(s, m, n, RECORDS(n) - 1); /* past the end the last record is handed out */
+     return r;)
+
+DOOR(skr_index, skr_listing_index, (uint8_t s, const uint8_t *m, size_t n),
+     skr_index r = real_skr_listing_index(s, m, n);
+     if (FAULT == 82 && !r.number) for (int h = 0; h < 256; h++) if (!r.counts[h]) r.firsts[h] = 1; /* the first place is 1 where there is no record */
+     if (FAULT == 83) for (int h = 0; h < 256; h++) r.counts[h] &= 0xFF;    /* a count is held in a byte */
+     return r;)
+
+DOOR(skr_found, skr_listing_lookup,
+     (uint8_t s, const uint8_t *m, size_t n, const uint32_t *c, size_t cn, const uint32_t *f, size_t fn, uint8_t h, uint8_t d, uint8_t l),
+     skr_found r = real_skr_listing_lookup(s, m, n, c, cn, f, fn, h, d, l);
+     if (FAULT == 84 && !r.number) for (size_t i = r.place; i < RECORDS(n); i++) if (HAS(m, i, h, d, l)) { r.place = i; r.status = m[6 + 4 * i]; } /* the last record that has the code */
+     if (FAULT == 85 && !r.number && r.place + 1 == RECORDS(n)) { memset(&r, 0, sizeof r); r.number = 16; } /* 16 where the code stands in the last record */
+     skr_index own = real_skr_listing_index(s, m, n);
+     skr_found by_own = real_skr_listing_lookup(s, m, n, own.counts, 256, own.firsts, 256, h, d, l);
+     if (FAULT == 86 && r.number == 11 && by_own.number == 16) r = by_own;  /* 16 before 11 */
+     if (FAULT == 87 && r.number == 11 && h < cn && h < fn && c[h] == own.counts[h] && f[h] == own.firsts[h]) r = by_own; /* the index is compared at the code's high byte alone */
+     return r;)
+
+DOOR(skr_written, skr_write_listing, (uint8_t s, uint8_t k, const uint8_t *d, size_t dn, uint8_t *r, size_t rn),
+     if (FAULT == 88 && dn / 4 <= 4096) dn -= dn % 4;                       /* a cut record is left out */
+     return real_skr_write_listing(s, k, d, dn, r, rn);)

@@ -5,4 +5,5 @@ pub mod Codes
 pub mod Sheets
 pub mod Stepped
 pub mod Whole
+pub mod Subs
 pub mod Unique

@@ -34,6 +34,17 @@ use Rattle.station.proofs.replays.skr_replay_log.Kinds as replay-log-ki
 use Rattle.station.proofs.replays.skr_replay_log.Reads as replay-log-reads
 use Rattle.station.proofs.replays.skr_replay_step.Kinds as replay-step-kinds
 use Rattle.station.proofs.replays.skr_replay_step.Reads as replay-step-reads
+use Rattle.station.proofs.listings.skr_read_listing.Kinds as read-listing-kinds
+use Rattle.station.proofs.listings.skr_read_listing.Reads as read-listing-reads
+use Rattle.station.proofs.listings.skr_listing_record.Kinds as listing-record-kinds
+use Rattle.station.proofs.listings.skr_listing_record.Reads as listing-record-reads
+use Rattle.station.proofs.listings.skr_listing_index.Kinds as listing-index-kinds
+use Rattle.station.proofs.listings.skr_listing_index.Reads as listing-index-reads
+use Rattle.station.proofs.listings.skr_listing_lookup.Kinds as listing-lookup-kinds
+use Rattle.station.proofs.listings.skr_listing_lookup.Reads as listing-lookup-reads
+use Rattle.station.proofs.listings.skr_write_listing as write-listing
+use Rattle.station.proofs.listings.skr_write_listing.Kinds as write-listing-kinds
+use Rattle.station.proofs.listings.skr_write_listing.Reads as write-listing-reads
 use Rattle.station.proofs.why.skr_why_request.Kinds as why-request-kinds
 use Rattle.station.proofs.why.skr_why_request.Reads as why-request-reads
 use Rattle.station.proofs.why.skr_why_response.Kinds as why-response-kinds
@@ -118,6 +129,18 @@ replay-log-determined κs a x y r₁ r₂ p q = p ∙ sym q
 pub replay-step-determined : Determined 0 replay-step-kinds.ps replay-step-kinds.r replay-step-reads.Post
 replay-step-determined κs a x y r₁ r₂ p q = p ∙ sym q
 
+pub read-listing-determined : Determined 1 read-listing-kinds.ps read-listing-kinds.r read-listing-reads.Post
+read-listing-determined κs a x y r₁ r₂ p q = p ∙ sym q
+
+pub listing-record-determined : Determined 1 listing-record-kinds.ps listing-record-kinds.r listing-record-reads.Post
+listing-record-determined κs a x y r₁ r₂ p q = p ∙ sym q
+
+pub listing-index-determined : Determined 1 listing-index-kinds.ps listing-index-kinds.r listing-index-reads.Post
+listing-index-determined κs a x y r₁ r₂ p q = p ∙ sym q
+
+pub listing-lookup-determined : Determined 3 listing-lookup-kinds.ps listing-lookup-kinds.r listing-lookup-reads.Post
+listing-lookup-determined κs a x y r₁ r₂ p q = p ∙ sym q
+
 -- ---- writers: the record, and what the room, the last parameter, holds at the exit
 pub write-request-determined : (κs : Lfts 2) (a : ArgsD write-request.signature κs) (x y : AtExit (endedOf 2 write-request-kinds.ps write-request-kinds.r) κs) (r s : WrittenRecord)
     → write-request-reads.Post κs a r x → write-request-reads.Post κs a s y → (r ≡ s) × (now (x .1 .1 .1 .1 .1 .1 .1 .0) ≡ now (y .1 .1 .1 .1 .1 .1 .1 .0))
@@ -170,3 +193,7 @@ write-routine-response-message-determined κs a x y r₁ r₂ p q = (p .0 ∙ sy
 
 pub write-negative-determined : WritesOnce 1 write-negative-kinds.ps write-negative-kinds.r (λ κs x. x .1 .1 .0) write-negative-reads.Post
 write-negative-determined κs a x y r₁ r₂ p q = (p .0 ∙ sym (q .0), p .1 ∙ sym (q .1))
+
+pub write-listing-determined : (κs : Lfts 2) (a : ArgsD write-listing.signature κs) (x y : AtExit (endedOf 2 write-listing-kinds.ps write-listing-kinds.r) κs) (r s : WrittenRecord)
+    → write-listing-reads.Post κs a r x → write-listing-reads.Post κs a s y → (r ≡ s) × (now (x .1 .1 .1 .0) ≡ now (y .1 .1 .1 .0))
+write-listing-determined κs a x y r s p q = (p .0 ∙ sym (q .0), p .1 ∙ sym (q .1))

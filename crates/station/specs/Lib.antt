@@ -5,3 +5,4 @@ pub mod Why
 pub mod Batches
 pub mod Joined
 pub mod Messages
+pub mod Listings

@@ -2,6 +2,7 @@
 // Each answers on every input. A kind or a sub-function that does not exist, which only C can hand over, is refused before anything else.
 pub mod batches;
 pub mod joined;
+pub mod listings;
 pub mod messages;
 pub mod records;
 pub mod replays;

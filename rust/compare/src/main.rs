@@ -9,6 +9,8 @@ mod expected;
 mod grid;
 mod items;
 mod joined;
+mod listing_model;
+mod listings;
 mod log_model;
 mod message;
 mod model;
@@ -76,6 +78,10 @@ fn main() {
     step(b, "negative answers", message::negatives);
     step(b, "whole messages of every sort", message::chosen);
     step(b, "whole messages written", message::written);
+    step(b, "heads of listings", listings::heads);
+    step(b, "listings of up to 4 records", listings::short_listings);
+    step(b, "indexes that are another's", listings::other_indexes);
+    step(b, "long listings", listings::long_listings);
     if !arguments.quick {
         step(b, "all messages of up to 3 bytes", sweep::short_messages);
         step(b, "messages of 4 to 7 chosen bytes", sweep::chosen_messages);
@@ -107,12 +113,14 @@ fn random_rounds(bench: &mut Bench, seed: u64, end: Instant) {
     let mut batches = Rng::new(seed.rotate_left(32));
     let mut joined = Rng::new(!seed.rotate_left(32));
     let mut messages = Rng::new(seed ^ 0x7F);
+    let mut listed = Rng::new(seed.rotate_left(32) ^ 9);
     loop {
         random::round(bench, &mut rng);
         replays::round(bench, &mut logs);
         batch::round(bench, &mut batches);
         joined::round(bench, &mut joined);
         message::round(bench, &mut messages);
+        listings::round(bench, &mut listed);
         if let Some(recorder) = &mut bench.recorder {
             recorder.end();
         }

@@ -98,6 +98,49 @@ fn readers(bench: &mut Bench) {
         unsafe { c::skr_replay_log(null, 0) },
         flat::replay_log(none),
     );
+    listings(bench);
+}
+
+fn listings(bench: &mut Bench) {
+    let (null, no_numbers) = (null::<u8>(), null::<u32>());
+    let empty = [0x59, 0x02, 0xFF];
+    let (listing, len) = (empty.as_ptr(), empty.len());
+    let code = skrolvind::TroubleCode {
+        high: 0,
+        middle: 0,
+        low: 0,
+    };
+    for sub in 1..=2 {
+        reader(
+            bench,
+            Call::ReadListing,
+            unsafe { c::skr_read_listing(sub, null, 0) },
+            flat::read_listing(sub, &[]),
+        );
+        reader(
+            bench,
+            Call::ListingRecord,
+            unsafe { c::skr_listing_record(sub, null, 0, 0) },
+            flat::listing_record(sub, &[], 0),
+        );
+        reader(
+            bench,
+            Call::ListingIndex,
+            unsafe { c::skr_listing_index(sub, null, 0) },
+            flat::listing_index(sub, &[]),
+        );
+        reader(
+            bench,
+            Call::LookUp,
+            unsafe {
+                c::skr_listing_lookup(sub, listing, len, no_numbers, 0, no_numbers, 0, 0, 0, 0)
+            },
+            flat::listing_lookup(sub, &empty, &[], &[], code),
+        );
+        writer(bench, Call::WriteListing, |p, n, r, k| unsafe {
+            c::skr_write_listing(sub, 0x7F, p, n, r, k)
+        });
+    }
 }
 
 /// The doors of whole messages.

@@ -31,9 +31,14 @@ pub enum Call {
     WriteRoutineRequestMessage,
     WriteRoutineResponseMessage,
     WriteNegative,
+    ReadListing,
+    ListingRecord,
+    ListingIndex,
+    LookUp,
+    WriteListing,
 }
 
-const CALLS: [&str; 27] = [
+const CALLS: [&str; 32] = [
     "requests read",
     "responses read",
     "routine requests read",
@@ -61,6 +66,11 @@ const CALLS: [&str; 27] = [
     "whole routine requests written",
     "whole routine responses written",
     "negative answers written",
+    "listings read",
+    "records of listings",
+    "indexes of listings",
+    "codes looked up",
+    "listings written",
 ];
 
 /// What no door leads to, in the order of the letters that the recorded list has for it.
@@ -142,9 +152,10 @@ pub enum Rule {
     Batch,
     Joined,
     WholeMessage,
+    Listing,
 }
 
-const RULES: [&str; 15] = [
+const RULES: [&str; 16] = [
     "size width 0 or 17 up: refusal 6 with the width",
     "routine request refused with 4: the byte is the low seven bits",
     "too little room: refusal 7, and nothing is written",
@@ -160,6 +171,7 @@ const RULES: [&str; 15] = [
     "batches of messages: ours, as document 02 has them",
     "joined requests: ours, as document 02 has them",
     "whole messages: document 02's, behind the service byte 01's",
+    "listings, indexes and lookups: ours, as document 02 has them",
 ];
 
 impl Rule {

@@ -155,6 +155,56 @@ pub struct Message {
     pub listed: u64,
 }
 
+/// The head of a listing.
+#[repr(C)]
+#[derive(Clone, Copy, Debug, Default, PartialEq, Eq)]
+pub struct Head {
+    pub number: u64,
+    pub first: u64,
+    pub second: u64,
+    pub mask: u64,
+    pub count: u64,
+}
+
+/// A record of a listing.
+#[repr(C)]
+#[derive(Clone, Copy, Debug, Default, PartialEq, Eq)]
+pub struct Listed {
+    pub number: u64,
+    pub first: u64,
+    pub second: u64,
+    pub found: u64,
+    pub high: u64,
+    pub middle: u64,
+    pub low: u64,
+    pub status: u64,
+}
+
+/// The index of a listing, by high byte.
+#[repr(C)]
+#[derive(Clone, Copy, Debug, PartialEq, Eq)]
+pub struct Index {
+    pub number: u64,
+    pub first: u64,
+    pub second: u64,
+    pub counts: [u32; 256],
+    pub firsts: [u32; 256],
+}
+
+/// The first record that has a code, and its place.
+#[repr(C)]
+#[derive(Clone, Copy, Debug, Default, PartialEq, Eq)]
+pub struct Found {
+    pub number: u64,
+    pub first: u64,
+    pub second: u64,
+    pub place: u64,
+    pub high: u64,
+    pub middle: u64,
+    pub low: u64,
+    pub status: u64,
+}
+
 /// The two sizes of a message to be written, in halves.
 #[derive(Clone, Copy, Debug, Default, PartialEq, Eq)]
 pub struct Sizes {
@@ -180,8 +230,8 @@ impl Sizes {
 /// The C functions themselves, over pointers: for those who have to hand over what no slice can be.
 pub mod c {
     use super::{
-        Batch, Desk, FileTransfer, Message, NextTroubleCode, Replay, Routine, Split, Tally,
-        TroubleCode, Why, Written,
+        Batch, Desk, FileTransfer, Found, Head, Index, Listed, Message, NextTroubleCode, Replay,
+        Routine, Split, Tally, TroubleCode, Why, Written,
     };
 
     unsafe extern "C" {
@@ -321,6 +371,34 @@ pub mod c {
         ) -> Written;
         pub fn skr_write_negative(service: u8, code: u8, room: *mut u8, room_len: usize)
         -> Written;
+        pub fn skr_read_listing(sub: u8, listing: *const u8, listing_len: usize) -> Head;
+        pub fn skr_listing_record(
+            sub: u8,
+            listing: *const u8,
+            listing_len: usize,
+            place: usize,
+        ) -> Listed;
+        pub fn skr_listing_index(sub: u8, listing: *const u8, listing_len: usize) -> Index;
+        pub fn skr_listing_lookup(
+            sub: u8,
+            listing: *const u8,
+            listing_len: usize,
+            counts: *const u32,
+            counts_len: usize,
+            firsts: *const u32,
+            firsts_len: usize,
+            high: u8,
+            middle: u8,
+            low: u8,
+        ) -> Found;
+        pub fn skr_write_listing(
+            sub: u8,
+            mask: u8,
+            records: *const u8,
+            records_len: usize,
+            room: *mut u8,
+            room_len: usize,
+        ) -> Written;
     }
 }
 
@@ -591,4 +669,55 @@ pub fn write_routine_response_message(
 pub fn write_negative(service: u8, code: u8, room: &mut [u8]) -> Written {
     // SAFETY: the pointer and the length are those of one slice.
     unsafe { c::skr_write_negative(service, code, room.as_mut_ptr(), room.len()) }
+}
+
+/// `skr_read_listing`.
+#[must_use]
+#[inline]
+pub fn read_listing(sub: u8, listing: &[u8]) -> Head {
+    // SAFETY: the pointer and the length are those of one slice.
+    unsafe { c::skr_read_listing(sub, listing.as_ptr(), listing.len()) }
+}
+
+/// `skr_listing_record`.
+#[must_use]
+#[inline]
+pub fn listing_record(sub: u8, listing: &[u8], place: usize) -> Listed {
+    // SAFETY: the pointer and the length are those of one slice.
+    unsafe { c::skr_listing_record(sub, listing.as_ptr(), listing.len(), place) }
+}
+
+/// `skr_listing_index`.
+#[must_use]
+#[inline]
+pub fn listing_index(sub: u8, listing: &[u8]) -> Index {
+    // SAFETY: the pointer and the length are those of one slice.
+    unsafe { c::skr_listing_index(sub, listing.as_ptr(), listing.len()) }
+}
+
+/// `skr_listing_lookup`.
+#[must_use]
+#[inline]
+pub fn listing_lookup(
+    sub: u8,
+    listing: &[u8],
+    counts: &[u32],
+    firsts: &[u32],
+    code: crate::TroubleCode,
+) -> Found {
+    let (l, l_len) = (listing.as_ptr(), listing.len());
+    let (n, n_len) = (counts.as_ptr(), counts.len());
+    let (p, p_len) = (firsts.as_ptr(), firsts.len());
+    let crate::TroubleCode { high, middle, low } = code;
+    // SAFETY: each pointer stands with its own slice's length, and nothing is written.
+    unsafe { c::skr_listing_lookup(sub, l, l_len, n, n_len, p, p_len, high, middle, low) }
+}
+
+/// `skr_write_listing`.
+#[inline]
+pub fn write_listing(sub: u8, mask: u8, records: &[u8], room: &mut [u8]) -> Written {
+    let (d, d_len) = (records.as_ptr(), records.len());
+    let (r, r_len) = (room.as_mut_ptr(), room.len());
+    // SAFETY: each pointer stands with its own slice's length, and the two slices do not overlap.
+    unsafe { c::skr_write_listing(sub, mask, d, d_len, r, r_len) }
 }

@@ -19,6 +19,7 @@
 mod batch;
 pub mod flat;
 mod joined;
+mod listing;
 mod message;
 mod read;
 mod replay;
@@ -29,6 +30,7 @@ mod write;
 
 pub use batch::*;
 pub use joined::*;
+pub use listing::*;
 pub use message::*;
 pub use read::*;
 pub use replay::*;

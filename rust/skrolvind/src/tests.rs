@@ -425,11 +425,81 @@ fn a_refusal_and_a_reason_print_their_meaning() {
     let why = why_request(&[7, 0, 2, 0x61]).unwrap_err();
     assert_eq!(std::format!("{why}"), std::format!("name at 1: {text}"));
     // each number has a meaning of its own
-    let mut meanings: Vec<_> = (0..=15).map(|n| refusal(n, 0, 0).meaning()).collect();
+    let mut meanings: Vec<_> = (0..=16).map(|n| refusal(n, 0, 0).meaning()).collect();
     assert_eq!(meanings[0], refusal(99, 0, 0).meaning());
     meanings.sort_unstable();
     meanings.dedup();
-    assert_eq!(meanings.len(), 16);
+    assert_eq!(meanings.len(), 17);
+}
+
+const LISTING: [u8; 15] = [
+    0x59, 0x02, 0x7F, 0x03, 0x01, 0x11, 0x2F, 0xC1, 0x00, 0x00, 0x08, 0x03, 0x01, 0x11, 0x09,
+];
+
+const fn code(high: u8, middle: u8, low: u8) -> TroubleCode {
+    TroubleCode { high, middle, low }
+}
+
+#[test]
+fn listings_are_read_and_written_back() {
+    let listing = Listing::read(ListingSub::ByStatusMask, &LISTING).unwrap();
+    assert_eq!((listing.mask(), listing.len()), (0x7F, 3));
+    assert_eq!(listing.records().len(), 3);
+    assert_eq!(listing.record(3), None);
+    let records: Vec<_> = listing.records().flat_map(<[u8; 4]>::from).collect();
+    assert_eq!(records, LISTING[3..]);
+    let mut room = [0xAA; 16];
+    let sub = ListingSub::ByStatusMask;
+    assert_eq!(
+        write_listing(sub, listing.mask(), &records, &mut room),
+        Ok(15)
+    );
+    assert_eq!((&room[..15], room[15]), (&LISTING[..], 0xAA));
+    let short = write_listing(sub, 0, &records, &mut room[..14]);
+    assert_eq!(short, Err(refusal(7, 15, 14)));
+    let cut = write_listing(sub, 0, &records[1..], &mut room);
+    assert_eq!(cut, Err(refusal(10, 0, 0)));
+}
+
+#[test]
+fn listings_are_refused() {
+    for (message, wanted) in [
+        (&[][..], refusal(1, 3, 0)),
+        (&[0, 0], refusal(1, 3, 2)),
+        (&[0x59, 0x08, 0], refusal(15, 0, 0)),
+        (&[0x19, 0x02, 0, 0], refusal(15, 0, 0)),
+        (&[0x59, 0x02, 0, 0], refusal(10, 0, 0)),
+    ] {
+        let read = Listing::read(ListingSub::ByStatusMask, message);
+        assert_eq!(read, Err(wanted));
+    }
+    let mut long = vec![0; 3 + 4 * 4097];
+    long[..3].copy_from_slice(&LISTING[..3]);
+    let read = |len: usize| Listing::read(ListingSub::ByStatusMask, &long[..len]).map(|l| l.len());
+    assert_eq!(read(16_387), Ok(4096));
+    assert_eq!(read(16_390), Err(refusal(10, 0, 0)));
+    assert_eq!(read(16_391), Err(refusal(12, 0, 0)));
+}
+
+#[test]
+fn codes_are_looked_up_by_the_own_index_alone() {
+    let listing = Listing::read(ListingSub::ByStatusMask, &LISTING).unwrap();
+    let index = listing.index();
+    let place = |code| {
+        index
+            .get(code)
+            .map(|found| found.map(|(place, record)| (place, record.status)))
+    };
+    assert_eq!(place(code(3, 1, 0x11)), Ok(Some((0, 0x2F))));
+    assert_eq!(place(code(0xC1, 0, 0)), Ok(Some((1, 0x08))));
+    assert_eq!(place(code(3, 1, 0x12)), Ok(None));
+    assert_eq!(place(code(4, 1, 0x11)), Ok(None));
+    let mut firsts = *index.firsts();
+    firsts[0x10] = 1;
+    let other = Index::kept(listing, *index.counts(), firsts);
+    for code in [code(3, 1, 0x11), code(3, 1, 0x12)] {
+        assert_eq!(other.get(code), Err(refusal(11, 0, 0)));
+    }
 }
 
 #[test]

@@ -1,0 +1,222 @@
+//! Trouble-code listings: read, their records one by one, an index beside them, and codes looked up by it.
+use crate::flat;
+use crate::read::{accepted, as_small};
+use crate::write::count;
+use crate::{Refusal, TroubleCode};
+
+/// Which question a listing answers, and with it a record's form.
+#[derive(Clone, Copy, Debug, PartialEq, Eq, Hash)]
+#[repr(u8)]
+pub enum ListingSub {
+    /// 0x02: three code bytes and a status byte.
+    ByStatusMask = 0x02,
+}
+
+/// A record of a listing.
+#[derive(Clone, Copy, Debug, PartialEq, Eq, Hash)]
+pub struct Listed {
+    /// The trouble code.
+    pub code: TroubleCode,
+    /// Its status byte.
+    pub status: u8,
+}
+
+/// The four bytes in which a record is handed over.
+impl From<Listed> for [u8; 4] {
+    #[inline]
+    fn from(record: Listed) -> Self {
+        let TroubleCode { high, middle, low } = record.code;
+        [high, middle, low, record.status]
+    }
+}
+
+/// A listing that was read: it stays in its message, which it keeps.
+///
+/// ```
+/// use skrolvind::{Listing, ListingSub, Refusal};
+///
+/// let message = [0x59, 0x02, 0xFF, 0x03, 0x01, 0x11, 0x2F, 0xC1, 0x00, 0x00, 0x08, 0x03, 0x01, 0x11, 0x09];
+/// let listing = Listing::read(ListingSub::ByStatusMask, &message)?;
+/// assert_eq!(listing.records().count(), 3);
+/// let index = listing.index();
+/// assert_eq!((index.counts()[0x03], index.firsts()[0xC1]), (2, 1));
+/// let code = listing.record(2).expect("there are three").code;
+/// let (place, record) = index.get(code)?.expect("it is there");
+/// assert_eq!((place, record.status), (0, 0x2F));
+/// # Ok::<(), Refusal>(())
+/// ```
+#[derive(Clone, Copy, Debug, PartialEq, Eq)]
+pub struct Listing<'a> {
+    sub: ListingSub,
+    message: &'a [u8],
+    mask: u8,
+    len: usize,
+}
+
+impl<'a> Listing<'a> {
+    /// Reads a listing.
+    ///
+    /// # Errors
+    /// Refusals 1, 15, 12 and 10.
+    #[inline]
+    pub fn read(sub: ListingSub, message: &'a [u8]) -> Result<Self, Refusal> {
+        let r = flat::read_listing(sub as u8, message);
+        accepted(r.number, r.first, r.second)?;
+        Ok(Self {
+            sub,
+            message,
+            mask: as_small(r.mask),
+            len: as_small(r.count),
+        })
+    }
+
+    /// The availability mask.
+    #[must_use]
+    pub const fn mask(&self) -> u8 {
+        self.mask
+    }
+
+    /// How many records there are.
+    #[must_use]
+    pub const fn len(&self) -> usize {
+        self.len
+    }
+
+    /// Whether there is no record.
+    #[must_use]
+    pub const fn is_empty(&self) -> bool {
+        self.len == 0
+    }
+
+    /// The record at a place, counted from 0; none past the last one.
+    #[must_use]
+    #[inline]
+    pub fn record(&self, place: usize) -> Option<Listed> {
+        let r = flat::listing_record(self.sub as u8, self.message, place);
+        (r.found != 0).then(|| listed(r.high, r.middle, r.low, r.status))
+    }
+
+    /// The records in their order.
+    #[must_use]
+    pub const fn records(&self) -> Records<'a> {
+        Records {
+            listing: *self,
+            next: 0,
+        }
+    }
+
+    /// The index of this listing.
+    #[must_use]
+    #[inline]
+    pub fn index(&self) -> Index<'a> {
+        let r = flat::listing_index(self.sub as u8, self.message);
+        Index {
+            listing: *self,
+            counts: r.counts,
+            firsts: r.firsts,
+        }
+    }
+}
+
+#[inline]
+fn listed(high: u64, middle: u64, low: u64, status: u64) -> Listed {
+    let code = TroubleCode {
+        high: as_small(high),
+        middle: as_small(middle),
+        low: as_small(low),
+    };
+    Listed {
+        code,
+        status: as_small(status),
+    }
+}
+
+/// The records of a listing, one after the other.
+#[derive(Clone, Copy, Debug)]
+pub struct Records<'a> {
+    listing: Listing<'a>,
+    next: usize,
+}
+
+impl Iterator for Records<'_> {
+    type Item = Listed;
+
+    #[inline]
+    fn next(&mut self) -> Option<Listed> {
+        let record = self.listing.record(self.next)?;
+        self.next += 1;
+        Some(record)
+    }
+
+    #[inline]
+    fn size_hint(&self) -> (usize, Option<usize>) {
+        let left = self.listing.len.saturating_sub(self.next);
+        (left, Some(left))
+    }
+}
+
+impl ExactSizeIterator for Records<'_> {}
+
+/// The index beside a listing: for each high byte, how many records have it and the place of the first.
+#[derive(Clone, Copy, Debug, PartialEq, Eq)]
+pub struct Index<'a> {
+    listing: Listing<'a>,
+    counts: [u32; 256],
+    firsts: [u32; 256],
+}
+
+impl<'a> Index<'a> {
+    /// An index that was kept elsewhere, beside the listing that it is said to belong to.
+    #[must_use]
+    pub const fn kept(listing: Listing<'a>, counts: [u32; 256], firsts: [u32; 256]) -> Self {
+        Self {
+            listing,
+            counts,
+            firsts,
+        }
+    }
+
+    /// How many records have each high byte.
+    #[must_use]
+    pub const fn counts(&self) -> &[u32; 256] {
+        &self.counts
+    }
+
+    /// The place of the first of them, 0 where there is none.
+    #[must_use]
+    pub const fn firsts(&self) -> &[u32; 256] {
+        &self.firsts
+    }
+
+    /// The first record that has the code and its place, or none where no record has it, which is refusal 16.
+    ///
+    /// # Errors
+    /// Refusal 11 for an index that is not this listing's own: only one that was kept elsewhere can be.
+    #[inline]
+    pub fn get(&self, code: TroubleCode) -> Result<Option<(usize, Listed)>, Refusal> {
+        let Listing { sub, message, .. } = self.listing;
+        let r = flat::listing_lookup(sub as u8, message, &self.counts, &self.firsts, code);
+        match accepted(r.number, r.first, r.second) {
+            Ok(()) => Ok(Some((
+                as_small(r.place),
+                listed(r.high, r.middle, r.low, r.status),
+            ))),
+            Err(Refusal { number: 16, .. }) => Ok(None),
+            Err(refusal) => Err(refusal),
+        }
+    }
+}
+
+/// Writes a listing from records of four bytes each: three code bytes and a status byte (`<[u8; 4]>::from` of a [`Listed`]).
+///
+/// # Errors
+/// Refusals 12, 10 and 7.
+#[inline]
+pub fn write_listing(
+    sub: ListingSub,
+    mask: u8,
+    records: &[u8],
+    room: &mut [u8],
+) -> Result<usize, Refusal> {
+    count(flat::write_listing(sub as u8, mask, records, room))
+}
