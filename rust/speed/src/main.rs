@@ -5,6 +5,7 @@
 mod arguments;
 mod batch;
 mod clock;
+mod listing;
 mod messages;
 mod row;
 mod rows;

@@ -1,5 +1,6 @@
 //! The rows of the table: the original called as itself, and this port through its binding.
 use crate::batch::{self, List, Morning};
+use crate::listing;
 use crate::messages::{self, TEXTS, Text, name};
 use crate::row::{Codec, Row, read_and_written, read_only};
 use crate::same::{self, Read};
@@ -8,7 +9,7 @@ use oracle::itself::{
     Decode, DecodeIter, DtcRecord, Encode, Error, NamePayload, RequestFileTransferRequest,
     RequestFileTransferResponse, RoutineControlRequest, RoutineControlResponse,
 };
-use skrolvind::{Request, Response, next_trouble_code};
+use skrolvind::{Listing, ListingSub, Request, Response, TroubleCode, next_trouble_code};
 use std::hint::black_box;
 
 const NAME_LENGTHS: [usize; 3] = [20, 200, 65_535];
@@ -52,6 +53,11 @@ pub fn rows() -> Vec<Row> {
             morning,
             batch::by_single_calls,
         ));
+    }
+
+    rows.push(passed(listing::message(4096, 256)));
+    for highs in [256, 1] {
+        rows.extend(indexed(highs, listing::message(4096, highs)));
     }
     rows
 }
@@ -226,4 +232,67 @@ fn read_in_one_call(called: &str, by: &str, morning: Morning, each: fn(Morning) 
     read_only(&what, morning.buffer.len(), morning, calls, |each, port| {
         Some(*each) == *port
     })
+}
+
+fn read_listing(message: &'static [u8]) -> Option<Listing<'static>> {
+    Listing::read(ListingSub::ByStatusMask, message).ok()
+}
+
+/// All bytes of the records added up.
+fn listed_bytes(message: &'static [u8]) -> Option<u32> {
+    let records = read_listing(message)?.records();
+    let bytes = records.flat_map(<[u8; 4]>::from);
+    Some(bytes.map(u32::from).sum())
+}
+
+fn listed_index(message: &'static [u8]) -> Option<listing::Index> {
+    let index = read_listing(message)?.index();
+    Some((*index.counts(), *index.firsts()))
+}
+
+/// The records of a listing, one after the other.
+fn passed(message: Vec<u8>) -> Row {
+    let message: &'static [u8] = message.leak();
+    let calls = (listing::bytes, listed_bytes);
+    read_only(
+        "listing of 4096 records, one after the other",
+        message.len(),
+        message,
+        calls,
+        |a, b| a.is_some() && a == b,
+    )
+}
+
+/// The index of a listing with so many high bytes in turn, and its last code looked up by it.
+fn indexed(highs: usize, message: Vec<u8>) -> [Row; 2] {
+    let message: &'static [u8] = message.leak();
+    let bytes = message.len();
+    let last = &message[bytes - 4..];
+    let code = TroubleCode {
+        high: last[0],
+        middle: last[1],
+        low: last[2],
+    };
+    let index = read_listing(message).expect("it is good").index();
+    let kept = (*index.counts(), *index.firsts());
+    let named = |what| format!("{what} of 4096 records, high bytes: {highs}");
+    [
+        read_only(
+            &named("index"),
+            bytes,
+            message,
+            (listing::index, listed_index),
+            |a, b| a.is_some() && a == b,
+        ),
+        read_only(
+            &named("lookup of the last"),
+            bytes,
+            code,
+            (
+                move |code| listing::look_up(message, &kept, code),
+                move |code| Some(index.get(code).ok()??.0),
+            ),
+            |a, b| a.is_some() && a == b,
+        ),
+    ]
 }
