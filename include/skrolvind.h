@@ -107,6 +107,7 @@ typedef struct {
     uint64_t suppress, sub_function, identifier;
     uint64_t negative_service, code, listed;
 } skr_message;
+
 /* The head of a trouble-code listing: its availability mask, and how many records it has. */
 typedef struct {
     uint64_t number, first, second;
@@ -245,6 +246,7 @@ skr_written skr_write_routine_response_message(uint8_t sub_function, uint16_t id
 /* Writes a negative answer: 0x7F, the service, the code, which need not be listed. 11 for a service that is neither 0x38 nor 0x31,
  * then 7. */
 skr_written skr_write_negative(uint8_t service, uint8_t code, uint8_t *room, size_t room_len);
+
 /* Reads a trouble-code listing, the answer to ReadDTCInformation: bytes 59 and `sub`, the availability mask, then records. `sub`
  * is 0x02: three code bytes and a status byte each. The listing stays where it is. Refusals: 15 for a `sub` that does not exist;
  * 1 for fewer than 3 bytes; 15 for wrong first bytes; 12 for more than 4,096 whole records; 10 for a cut one. None is good. */

@@ -52,15 +52,15 @@ unequalSizes = refusal 8 0 0
 abbrev pub leftOver : ℕ → Refusal
 leftOver n = refusal 9 n 0
 
--- the records do not fill the length: the last one is cut
+-- the records do not fill the length: the last one is cut; or lengths do not add up to their buffer
 abbrev pub cut : Refusal
 cut = refusal 10 0 0
 
--- the record at this place has a field out of its range; or an index is not the listing's own, with 0
+-- the record at this place has a field out of its range; or an index is not the listing's own, or a negative answer is to a service that we don't have, with 0
 abbrev pub outOfRange : ℕ → Refusal
 outOfRange place = refusal 11 place 0
 
--- there are more whole records than the call takes
+-- there are more whole records, or messages, than the call takes
 abbrev pub tooMany : Refusal
 tooMany = refusal 12 0 0
 
@@ -72,7 +72,7 @@ notAllowed place = refusal 13 place 0
 abbrev pub wrongCounter : ℕ → Refusal
 wrongCounter place = refusal 14 place 0
 
--- the record at this place has a service byte that is none of a transfer's; or the first bytes are not a listing's, with 0
+-- the record at this place has a service byte that is none of a transfer's; or a message's service byte, or a listing's first bytes, are none that we have, with 0
 abbrev pub unknownService : ℕ → Refusal
 unknownService place = refusal 15 place 0
 

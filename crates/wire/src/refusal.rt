@@ -21,17 +21,17 @@ pub enum Refusal {
     UnequalSizes,
     // 9: the desk check found so many bytes left over.
     LeftOver(usize),
-    // 10: the length is no whole number of records: the last one is cut.
+    // 10: the length is no whole number of records: the last one is cut; or lengths do not add up to their buffer.
     Cut,
-    // 11: the record at this place has a field out of its range; or an index is not the listing's own, with 0.
+    // 11: the record at this place has a field out of its range; or an index is not the listing's own, or a negative answer is to a service that we don't have, with 0.
     OutOfRange { place: usize },
-    // 12: there are more whole records than the call takes.
+    // 12: there are more whole records, or messages, than the call takes.
     TooMany,
     // 13: the record at this place is a step that the state or its kind does not allow.
     NotAllowed { place: usize },
     // 14: the block at this place has neither the next counter nor the last one.
     WrongCounter { place: usize },
-    // 15: the record at this place has a service byte that is none of a transfer's; or the first bytes are not a listing's, with 0.
+    // 15: the record at this place has a service byte that is none of a transfer's; or a message's service byte, or a listing's first bytes, are none that we have, with 0.
     UnknownService { place: usize },
     // 16: no record of the listing has the code.
     NoSuchCode,

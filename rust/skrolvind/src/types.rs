@@ -27,11 +27,11 @@ impl Refusal {
             8 => "the sizes differ though the file is not packed",
             9 => "bytes are left over",
             10 => "the last record is cut, or lengths do not add up",
-            11 => "a field of a record is out of its range, or the index is another listing's",
+            11 => "a field is out of its range, or the index is another listing's",
             12 => "there are more records or messages than are taken",
             13 => "this step is not allowed here",
             14 => "a block has the wrong counter",
-            15 => "no transfer has this service byte, or no listing these first bytes",
+            15 => "this service byte, or these first bytes, are none that we have",
             16 => "no record has this code",
             _ => "this number is not known here",
         }
