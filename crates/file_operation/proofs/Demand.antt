@@ -141,3 +141,9 @@ module _ {A Q : Type 0} {read : Reader A} {rewrite : Reader (List ℕ)} {meant :
     same = keeps .same s u q p (length s) (length u) h k .1 means;
     settled = rewrites-it (keeps .paper .settled m e);
   }
+
+-- demand 3 promises it of a room that is just as long as the message, too
+pub same-length-is-room : {Q : Type 0} {Reads : List ℕ → Seen Q → Type 0} {Rewrites : List ℕ → List ℕ → RewriteAnswer → List ℕ → Type 0} {Same : List ℕ → Q → List ℕ → Q → Type 0}
+    → Demand3 Q Reads Rewrites Same → {s room after : List ℕ} {q : Q} {r : RewriteAnswer} → Whole Q Reads s q → length s ≡ length room → Rewrites s room r after
+    → (u : List ℕ) × Became Rewrites s u × (r ≡ RewriteAnswer.Accepted (length u) (length s))
+same-length-is-room d w e h = d .always w (omega arith) h
