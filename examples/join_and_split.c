@@ -2,7 +2,7 @@
  * apart again; and reads all of it in one call: a line about each file, and one about each request that comes back.
  *
  *     tools/library
- *     cc -Iinclude examples/join_and_split.c target/staticlib/libstation.a -o join_and_split
+ *     cc -Iinclude examples/join_and_split.c target/staticlib/libskrolvind.a -o join_and_split
  *     ./join_and_split FILE..
  *
  * The exit status is 0 where every file has a request, 1 where one is refused, and 2 where a file cannot be read.

@@ -1,7 +1,7 @@
 /* Reads a file transfer request from a file, tells why where it is refused, and has the desk judge it: a line about each.
  *
  *     tools/library
- *     cc -Iinclude examples/read_message.c target/staticlib/libstation.a -o read_message
+ *     cc -Iinclude examples/read_message.c target/staticlib/libskrolvind.a -o read_message
  *     ./read_message FILE
  *
  * The exit status is 0 where the desk passes the request, 1 where it is refused, and 2 where the file cannot be read.

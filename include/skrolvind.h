@@ -1,4 +1,5 @@
-/* Skrolvind for C: the functions of crate `station`, each proved to do what its contract says on every input.
+/* Skrolvind for C: the functions of crates `station`, `archive` and `workshop`, each proved to do what its contract says on
+ * every input.
  *
  * A slice is a pointer and then a length; an empty slice may have any pointer. No function keeps a pointer, and no
  * function but a writer, or one that fills a list, changes a byte of what it is lent. Two slices that are lent to one call

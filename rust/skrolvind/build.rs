@@ -12,7 +12,7 @@ fn main() {
         .into();
     let named = env::var_os(VARIABLE).unwrap_or_else(|| "../../target/staticlib".into());
     let folder = here.join(named);
-    let library = folder.join("libstation.a");
+    let library = folder.join("libskrolvind.a");
     println!("cargo::rerun-if-changed={}", library.display());
     if !library.is_file() {
         println!(
@@ -22,5 +22,5 @@ fn main() {
         exit(1);
     }
     println!("cargo::rustc-link-search=native={}", folder.display());
-    println!("cargo::rustc-link-lib=static=station");
+    println!("cargo::rustc-link-lib=static=skrolvind");
 }

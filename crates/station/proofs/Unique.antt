@@ -8,10 +8,7 @@ use borrow.Fn.Kinds.{endedOf}
 use borrow.Fn.World.{ArgsD}
 use Rattle.paper.proofs.Utf8.{longest-once}
 use Rattle.wire.proofs.Unique.{Determined}
-use Rattle.wire.proofs.UniqueWriting.{WritesOnce}
 use Rattle.station.specs.declared.records.WrittenRecord.{WrittenRecord}
-use Rattle.station.specs.declared.records.DeskRecord.{DeskRecord}
-use Rattle.station.specs.declared.joined.SplitRecord.{SplitRecord}
 use Rattle.station.proofs.transfer.skr_read_request.Kinds as read-request-kinds
 use Rattle.station.proofs.transfer.skr_read_request.Reads as read-request-reads
 use Rattle.station.proofs.transfer.skr_read_response.Kinds as read-response-kinds
@@ -28,33 +25,6 @@ use Rattle.station.proofs.trouble.skr_dtc_next.Kinds as dtc-next-kinds
 use Rattle.station.proofs.trouble.skr_dtc_next.Reads as dtc-next-reads
 use Rattle.station.proofs.trouble.skr_valid_up_to.Kinds as valid-up-to-kinds
 use Rattle.station.proofs.trouble.skr_valid_up_to.Reads as valid-up-to-reads
-use Rattle.station.proofs.sheet.skr_tally_records.Kinds as tally-records-kinds
-use Rattle.station.proofs.sheet.skr_tally_records.Reads as tally-records-reads
-use Rattle.station.proofs.replays.skr_replay_log.Kinds as replay-log-kinds
-use Rattle.station.proofs.replays.skr_replay_log.Reads as replay-log-reads
-use Rattle.station.proofs.replays.skr_replay_step.Kinds as replay-step-kinds
-use Rattle.station.proofs.replays.skr_replay_step.Reads as replay-step-reads
-use Rattle.station.proofs.listings.skr_read_listing.Kinds as read-listing-kinds
-use Rattle.station.proofs.listings.skr_read_listing.Reads as read-listing-reads
-use Rattle.station.proofs.listings.skr_listing_record.Kinds as listing-record-kinds
-use Rattle.station.proofs.listings.skr_listing_record.Reads as listing-record-reads
-use Rattle.station.proofs.listings.skr_listing_index.Kinds as listing-index-kinds
-use Rattle.station.proofs.listings.skr_listing_index.Reads as listing-index-reads
-use Rattle.station.proofs.listings.skr_listing_lookup.Kinds as listing-lookup-kinds
-use Rattle.station.proofs.listings.skr_listing_lookup.Reads as listing-lookup-reads
-use Rattle.station.proofs.listings.skr_write_listing as write-listing
-use Rattle.station.proofs.listings.skr_write_listing.Kinds as write-listing-kinds
-use Rattle.station.proofs.listings.skr_write_listing.Reads as write-listing-reads
-use Rattle.station.proofs.why.skr_why_request.Kinds as why-request-kinds
-use Rattle.station.proofs.why.skr_why_request.Reads as why-request-reads
-use Rattle.station.proofs.why.skr_why_response.Kinds as why-response-kinds
-use Rattle.station.proofs.why.skr_why_response.Reads as why-response-reads
-use Rattle.station.proofs.batches.skr_read_batch as read-batch
-use Rattle.station.proofs.batches.skr_read_batch.Kinds as read-batch-kinds
-use Rattle.station.proofs.batches.skr_read_batch.Reads as read-batch-reads
-use Rattle.station.proofs.joined.skr_split_joined as split-joined
-use Rattle.station.proofs.joined.skr_split_joined.Kinds as split-joined-kinds
-use Rattle.station.proofs.joined.skr_split_joined.Reads as split-joined-reads
 use Rattle.station.proofs.transfer.skr_write_request as write-request
 use Rattle.station.proofs.transfer.skr_write_request.Kinds as write-request-kinds
 use Rattle.station.proofs.transfer.skr_write_request.Reads as write-request-reads
@@ -73,18 +43,20 @@ use Rattle.station.proofs.transfer.skr_rewrite_request.Reads as rewrite
 use Rattle.station.proofs.transfer.skr_rewrite_response as rewrite-response
 use Rattle.station.proofs.transfer.skr_rewrite_response.Kinds as rewrite-response-kinds
 use Rattle.station.proofs.transfer.skr_rewrite_response.Reads as rewrite-response-reads
-use Rattle.station.proofs.messages.skr_read_message.Kinds as read-message-kinds
-use Rattle.station.proofs.messages.skr_read_message.Reads as read-message-reads
-use Rattle.station.proofs.messages.skr_write_request_message.Kinds as write-request-message-kinds
-use Rattle.station.proofs.messages.skr_write_request_message.Reads as write-request-message-reads
-use Rattle.station.proofs.messages.skr_write_response_message.Kinds as write-response-message-kinds
-use Rattle.station.proofs.messages.skr_write_response_message.Reads as write-response-message-reads
-use Rattle.station.proofs.messages.skr_write_routine_request_message.Kinds as write-routine-request-message-kinds
-use Rattle.station.proofs.messages.skr_write_routine_request_message.Reads as write-routine-request-message-reads
-use Rattle.station.proofs.messages.skr_write_routine_response_message.Kinds as write-routine-response-message-kinds
-use Rattle.station.proofs.messages.skr_write_routine_response_message.Reads as write-routine-response-message-reads
-use Rattle.station.proofs.messages.skr_write_negative.Kinds as write-negative-kinds
-use Rattle.station.proofs.messages.skr_write_negative.Reads as write-negative-reads
+use Rattle.station.proofs.records.refused_write.Kinds as refused-write-kinds
+use Rattle.station.proofs.records.refused_write.Reads as refused-write-reads
+use Rattle.station.proofs.records.flat_write.Kinds as flat-write-kinds
+use Rattle.station.proofs.records.flat_write.Reads as flat-write-reads
+use Rattle.station.proofs.routine.bit.Kinds as bit-kinds
+use Rattle.station.proofs.routine.bit.Reads as bit-reads
+use Rattle.station.proofs.routine.accepted_request.Kinds as accepted-routine-request-kinds
+use Rattle.station.proofs.routine.accepted_request.Reads as accepted-routine-request-reads
+use Rattle.station.proofs.routine.accepted_response.Kinds as accepted-routine-response-kinds
+use Rattle.station.proofs.routine.accepted_response.Reads as accepted-routine-response-reads
+use Rattle.station.proofs.transfer.accepted_request.Kinds as accepted-request-kinds
+use Rattle.station.proofs.transfer.accepted_request.Reads as accepted-request-reads
+use Rattle.station.proofs.transfer.accepted_response.Kinds as accepted-response-kinds
+use Rattle.station.proofs.transfer.accepted_response.Reads as accepted-response-reads
 
 -- ---- readers and questions
 pub read-request-determined : Determined 1 read-request-kinds.ps read-request-kinds.r read-request-reads.Post
@@ -99,15 +71,6 @@ read-routine-request-determined κs a x y r₁ r₂ p q = p ∙ sym q
 pub read-routine-response-determined : Determined 1 read-routine-response-kinds.ps read-routine-response-kinds.r read-routine-response-reads.Post
 read-routine-response-determined κs a x y r₁ r₂ p q = p ∙ sym q
 
-pub why-request-determined : Determined 1 why-request-kinds.ps why-request-kinds.r why-request-reads.Post
-why-request-determined κs a x y r₁ r₂ p q = p ∙ sym q
-
-pub why-response-determined : Determined 1 why-response-kinds.ps why-response-kinds.r why-response-reads.Post
-why-response-determined κs a x y r₁ r₂ p q = p ∙ sym q
-
-pub read-message-determined : Determined 1 read-message-kinds.ps read-message-kinds.r read-message-reads.Post
-read-message-determined κs a x y r₁ r₂ p q = p ∙ sym q
-
 pub desk-check-determined : Determined 1 desk-check-kinds.ps desk-check-kinds.r desk-check-reads.Post
 desk-check-determined κs a x y r₁ r₂ p q = p ∙ sym q
 
@@ -119,27 +82,6 @@ dtc-next-determined κs a x y r₁ r₂ p q = p ∙ sym q
 
 pub valid-up-to-determined : Determined 1 valid-up-to-kinds.ps valid-up-to-kinds.r valid-up-to-reads.Post
 valid-up-to-determined κs a x y r₁ r₂ p q = longest-once _ r₁ r₂ p q
-
-pub tally-records-determined : Determined 1 tally-records-kinds.ps tally-records-kinds.r tally-records-reads.Post
-tally-records-determined κs a x y r₁ r₂ p q = p ∙ sym q
-
-pub replay-log-determined : Determined 1 replay-log-kinds.ps replay-log-kinds.r replay-log-reads.Post
-replay-log-determined κs a x y r₁ r₂ p q = p ∙ sym q
-
-pub replay-step-determined : Determined 0 replay-step-kinds.ps replay-step-kinds.r replay-step-reads.Post
-replay-step-determined κs a x y r₁ r₂ p q = p ∙ sym q
-
-pub read-listing-determined : Determined 1 read-listing-kinds.ps read-listing-kinds.r read-listing-reads.Post
-read-listing-determined κs a x y r₁ r₂ p q = p ∙ sym q
-
-pub listing-record-determined : Determined 1 listing-record-kinds.ps listing-record-kinds.r listing-record-reads.Post
-listing-record-determined κs a x y r₁ r₂ p q = p ∙ sym q
-
-pub listing-index-determined : Determined 1 listing-index-kinds.ps listing-index-kinds.r listing-index-reads.Post
-listing-index-determined κs a x y r₁ r₂ p q = p ∙ sym q
-
-pub listing-lookup-determined : Determined 3 listing-lookup-kinds.ps listing-lookup-kinds.r listing-lookup-reads.Post
-listing-lookup-determined κs a x y r₁ r₂ p q = p ∙ sym q
 
 -- ---- writers: the record, and what the room, the last parameter, holds at the exit
 pub write-request-determined : (κs : Lfts 2) (a : ArgsD write-request.signature κs) (x y : AtExit (endedOf 2 write-request-kinds.ps write-request-kinds.r) κs) (r s : WrittenRecord)
@@ -168,32 +110,24 @@ pub rewrite-response-determined : (κs : Lfts 2) (a : ArgsD rewrite-response.sig
     → rewrite-response-reads.Post κs a r x → rewrite-response-reads.Post κs a s y → (r ≡ s) × (now (x .1 .0) ≡ now (y .1 .0))
 rewrite-response-determined κs a x y r s p q = (p .0 ∙ sym (q .0), p .1 ∙ sym (q .1))
 
--- ---- a batch: the record, and what the list holds at the exit
-pub read-batch-determined : (κs : Lfts 3) (a : ArgsD read-batch.signature κs) (x y : AtExit (endedOf 3 read-batch-kinds.ps read-batch-kinds.r) κs) (r s : DeskRecord)
-    → read-batch-reads.Post κs a r x → read-batch-reads.Post κs a s y → (r ≡ s) × (now (x .1 .1 .0) ≡ now (y .1 .1 .0))
-read-batch-determined κs a x y r s p q = (p .0 ∙ sym (q .0), p .1 ∙ sym (q .1))
+-- ---- what the doors of other crates share with these
+pub refused-write-determined : Determined 0 refused-write-kinds.ps refused-write-kinds.r refused-write-reads.Post
+refused-write-determined κs a x y r₁ r₂ p q = p ∙ sym q
 
--- ---- a joined buffer: the record, and what the list holds at the exit
-pub split-joined-determined : (κs : Lfts 2) (a : ArgsD split-joined.signature κs) (x y : AtExit (endedOf 2 split-joined-kinds.ps split-joined-kinds.r) κs) (r s : SplitRecord)
-    → split-joined-reads.Post κs a r x → split-joined-reads.Post κs a s y → (r ≡ s) × (now (x .1 .0) ≡ now (y .1 .0))
-split-joined-determined κs a x y r s p q = (p .0 ∙ sym (q .0), p .1 ∙ sym (q .1))
+pub flat-write-determined : Determined 0 flat-write-kinds.ps flat-write-kinds.r flat-write-reads.Post
+flat-write-determined κs a x y r₁ r₂ p q = p ∙ sym q
 
--- ---- writers of whole messages, likewise
-pub write-request-message-determined : WritesOnce 2 write-request-message-kinds.ps write-request-message-kinds.r (λ κs x. x .1 .1 .1 .1 .1 .1 .1 .0) write-request-message-reads.Post
-write-request-message-determined κs a x y r₁ r₂ p q = (p .0 ∙ sym (q .0), p .1 ∙ sym (q .1))
+pub bit-determined : Determined 0 bit-kinds.ps bit-kinds.r bit-reads.Post
+bit-determined κs a x y r₁ r₂ p q = p ∙ sym q
 
-pub write-response-message-determined : WritesOnce 2 write-response-message-kinds.ps write-response-message-kinds.r (λ κs x. x .1 .1 .1 .1 .1 .1 .1 .1 .0) write-response-message-reads.Post
-write-response-message-determined κs a x y r₁ r₂ p q = (p .0 ∙ sym (q .0), p .1 ∙ sym (q .1))
+pub accepted-routine-request-determined : Determined 0 accepted-routine-request-kinds.ps accepted-routine-request-kinds.r accepted-routine-request-reads.Post
+accepted-routine-request-determined κs a x y r₁ r₂ p q = p ∙ sym q
 
-pub write-routine-request-message-determined : WritesOnce 2 write-routine-request-message-kinds.ps write-routine-request-message-kinds.r (λ κs x. x .1 .1 .1 .1 .0) write-routine-request-message-reads.Post
-write-routine-request-message-determined κs a x y r₁ r₂ p q = (p .0 ∙ sym (q .0), p .1 ∙ sym (q .1))
+pub accepted-routine-response-determined : Determined 0 accepted-routine-response-kinds.ps accepted-routine-response-kinds.r accepted-routine-response-reads.Post
+accepted-routine-response-determined κs a x y r₁ r₂ p q = p ∙ sym q
 
-pub write-routine-response-message-determined : WritesOnce 2 write-routine-response-message-kinds.ps write-routine-response-message-kinds.r (λ κs x. x .1 .1 .1 .0) write-routine-response-message-reads.Post
-write-routine-response-message-determined κs a x y r₁ r₂ p q = (p .0 ∙ sym (q .0), p .1 ∙ sym (q .1))
+pub accepted-request-determined : Determined 0 accepted-request-kinds.ps accepted-request-kinds.r accepted-request-reads.Post
+accepted-request-determined κs a x y r₁ r₂ p q = p ∙ sym q
 
-pub write-negative-determined : WritesOnce 1 write-negative-kinds.ps write-negative-kinds.r (λ κs x. x .1 .1 .0) write-negative-reads.Post
-write-negative-determined κs a x y r₁ r₂ p q = (p .0 ∙ sym (q .0), p .1 ∙ sym (q .1))
-
-pub write-listing-determined : (κs : Lfts 2) (a : ArgsD write-listing.signature κs) (x y : AtExit (endedOf 2 write-listing-kinds.ps write-listing-kinds.r) κs) (r s : WrittenRecord)
-    → write-listing-reads.Post κs a r x → write-listing-reads.Post κs a s y → (r ≡ s) × (now (x .1 .1 .1 .0) ≡ now (y .1 .1 .1 .0))
-write-listing-determined κs a x y r s p q = (p .0 ∙ sym (q .0), p .1 ∙ sym (q .1))
+pub accepted-response-determined : Determined 0 accepted-response-kinds.ps accepted-response-kinds.r accepted-response-reads.Post
+accepted-response-determined κs a x y r₁ r₂ p q = p ∙ sym q

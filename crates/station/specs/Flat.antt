@@ -1,7 +1,6 @@
 -- The flat form of each answer of the code, field by field: what the functions that flatten hand out.
 use Prim.Native.Nat.{ℕ}
 use mathlib.Core.Bool.{Bool, false}
-use mathlib.Core.List.{List}
 use Rattle.paper.specs.Choice.{pick}
 use Rattle.paper.specs.Answer.{accepted, refused}
 use Rattle.paper.specs.Kind.{modeOf}
@@ -26,14 +25,11 @@ use Rattle.routine_control.specs.declared.response.RoutineControlResponseAnswer
 use Rattle.dtc.specs.Status.{codeOf}
 use Rattle.dtc.specs.declared.status.DtcRecord.{DtcRecord}
 use Rattle.dtc.specs.declared.status.DtcRecordNext.{DtcRecordNext}
-use Rattle.tally.specs.declared.Tallied.{Tallied}
-use Rattle.tally.specs.declared.sheet.Sheet.{Sheet}
 use Rattle.station.specs.Records.{refusedTransfer, refusedRoutine, writtenRecord, refusedNext}
 use Rattle.station.specs.declared.records.FileTransferRecord.{FileTransferRecord}
 use Rattle.station.specs.declared.records.RoutineRecord.{RoutineRecord}
 use Rattle.station.specs.declared.records.WrittenRecord.{WrittenRecord}
 use Rattle.station.specs.declared.records.NextTroubleCodeRecord.{NextTroubleCodeRecord}
-use Rattle.station.specs.declared.records.TallyRecord.{TallyRecord}
 
 -- a message that was accepted; a request has no position
 abbrev pub acceptedMessage : FileOperationMode → Place → DataFormatIdentifier → (uncompressed compressed : Size) → (position tail : ℕ) → FileTransferRecord
@@ -111,11 +107,3 @@ abbrev pub flatNext : DtcRecordNext → NextTroubleCodeRecord
 flatNext DtcRecordNext.Nothing = record { number = 0; first = 0; second = 0; found = 0; high = 0; middle = 0; low = 0; tail = 0 }
 flatNext (DtcRecordNext.Record c tail) = foundNext c tail
 flatNext (DtcRecordNext.Refused e) = refusedNext (row e)
-
--- the cells beside a verdict
-abbrev pub flatVerdict : Tallied → List ℕ → TallyRecord
-flatVerdict Tallied.Counted cells = record { number = 0; first = 0; second = 0; cells = cells }
-flatVerdict (Tallied.Refused e) cells = record { number = row e .number; first = row e .first; second = row e .second; cells = cells }
-
-abbrev pub flatSheet : Sheet → TallyRecord
-flatSheet a = flatVerdict (a .verdict) (a .cells)

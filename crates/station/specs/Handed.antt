@@ -1,14 +1,12 @@
--- What C hands over. Of messages to be written: a byte that is no kind or no sub-function is refused before anything else.
+-- What C hands over of messages to be written: a byte that is no kind or no sub-function is refused before anything else.
 use Prim.Native.Nat.{ℕ, _+_, _*_, _^_}
 use mathlib.Core.Bool.{Bool}
 use mathlib.Core.List.{List}
-use Rattle.paper.specs.Choice.{pick}
 use Rattle.paper.specs.Answer.{Answer, accepted, refused}
 use Rattle.paper.specs.Kind.{Kind, known}
 use Rattle.paper.specs.Request.{request, writeRequest}
 use Rattle.paper.specs.Response.{response, writeResponse}
 use Rattle.paper.specs.RoutineControl.{SubFunction, knownSub, writeRoutineRequest, writeRoutineResponse}
-use Rattle.paper.specs.Replay.{Transfer, none, counter, closed, opened, State, state}
 use Rattle.routine_control.specs.Request.{routineRequest}
 use Rattle.routine_control.specs.Response.{routineResponse}
 
@@ -33,10 +31,3 @@ routineRequestHanded suppress sub identifier r = whereKnown (knownSub sub) (λ (
 
 unfoldable pub routineResponseHanded : ℕ → ℕ → List ℕ → Answer (List ℕ)
 routineResponseHanded sub identifier r = whereKnown (knownSub sub) (λ (f : SubFunction). writeRoutineResponse (routineResponse f identifier r))
-
--- a state: the last counter is looked at only where the transfer is open and has one
-abbrev pub transferHanded : (isOpen hasLast : Bool) (last : ℕ) → Transfer
-transferHanded o h c = pick o (opened (pick h (counter c) none)) closed
-
-abbrev pub stateHanded : (isOpen hasLast : Bool) (last repeats total : ℕ) → State
-stateHanded o h c n m = state (transferHanded o h c) n m

@@ -3,7 +3,7 @@ use mathlib.Core.Path.{_≡_}
 use Prim.Native.Nat.{ℕ, _-_, _/_, _%_, _^_}
 use mathlib.Core.Bool.{Bool}
 use mathlib.Core.List.{List}
-use lib.ListN.{length, replicate}
+use lib.ListN.{length}
 use Rattle.paper.specs.Choice.{pick}
 use Rattle.paper.specs.Answer.{Refusal, Answer, accepted, refused, Read, _leaving_, written}
 use Rattle.paper.specs.Kind.{modeOf}
@@ -12,17 +12,12 @@ use Rattle.paper.specs.Response.{Response, AfterMode, ended, blockAndFormat, af
 use Rattle.paper.specs.Rewriting.{rewrittenInto}
 use Rattle.paper.specs.RoutineControl.{RoutineRequest, RoutineResponse, byteOf}
 use Rattle.paper.specs.TroubleCode.{TroubleCode, Next, none, next}
-use Rattle.tally.specs.Sheet.{cellsOf}
-use Rattle.paper.specs.Replay as replays
-use Rattle.paper.specs.Replay.{counter, closed, opened, ran, stopped}
 use Rattle.station.specs.declared.records.FileTransferRecord.{FileTransferRecord}
 use Rattle.station.specs.declared.records.RoutineRecord.{RoutineRecord}
 use Rattle.station.specs.declared.records.WrittenRecord.{WrittenRecord}
 use Rattle.station.specs.declared.records.DeskRecord.{DeskRecord}
 use Rattle.station.specs.declared.records.TroubleCodeRecord.{TroubleCodeRecord}
 use Rattle.station.specs.declared.records.NextTroubleCodeRecord.{NextTroubleCodeRecord}
-use Rattle.station.specs.declared.records.TallyRecord.{TallyRecord}
-use Rattle.station.specs.declared.records.ReplayRecord.{ReplayRecord}
 
 -- ---- file transfer messages, of a message of n bytes
 abbrev pub refusedTransfer : Refusal → FileTransferRecord
@@ -149,44 +144,3 @@ abbrev pub nextRecord : ℕ → Answer Next → NextTroubleCodeRecord
 nextRecord n (accepted none) = record { number = 0; first = 0; second = 0; found = 0; high = 0; middle = 0; low = 0; tail = 0 }
 nextRecord n (accepted (next (c leaving t))) = record { number = 0; first = 0; second = 0; found = 1; high = c .high; middle = c .middle; low = c .low; tail = n - length t }
 nextRecord n (refused e) = refusedNext e
-
--- ---- the sheet of refusals
-abbrev pub tallyRecord : Answer (List (List ℕ)) → TallyRecord
-tallyRecord (accepted t) = record { number = 0; first = 0; second = 0; cells = cellsOf t }
-tallyRecord (refused e) = record { number = e .number; first = e .first; second = e .second; cells = replicate 120 0 }
-
--- ---- recorded transfers
--- 1 where a transfer is open
-abbrev pub openOf : replays.Transfer → ℕ
-openOf closed = 0
-openOf (opened last) = 1
-
--- the last counter, none once closed; 1 where there is one; and the counter, or 0
-abbrev pub lastIn : replays.Transfer → replays.Last
-lastIn closed = replays.none
-lastIn (opened last) = last
-
-abbrev pub hasLast : replays.Last → ℕ
-hasLast replays.none = 0
-hasLast (counter c) = 1
-
-abbrev pub counterOf : replays.Last → ℕ
-counterOf replays.none = 0
-counterOf (counter c) = c
-
-abbrev pub stateRecord : (number first second : ℕ) → replays.State → ReplayRecord
-stateRecord n a b st = record {
-  number = n;
-  first = a;
-  second = b;
-  «open» = openOf (st .transfer);
-  «has_last» = hasLast (lastIn (st .transfer));
-  last = counterOf (lastIn (st .transfer));
-  repeats = st .repeats;
-  total = st .total;
-}
-
--- the state at the end, or a refusal and the state before it
-abbrev pub replayRecord : replays.Ended → ReplayRecord
-replayRecord (ran st) = stateRecord 0 0 0 st
-replayRecord (stopped e st) = stateRecord (e .number) (e .first) (e .second) st

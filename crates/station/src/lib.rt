@@ -1,13 +1,7 @@
-// The doors for C and for Rust: every function that others link, over flat records, with no logic of its own.
+// The doors for C and for Rust to what document 01 asks, over flat records, with no logic of its own: file transfer and routine messages, the desk check, names and trouble codes.
 // Each answers on every input. A kind or a sub-function that does not exist, which only C can hand over, is refused before anything else.
-pub mod batches;
-pub mod joined;
-pub mod listings;
-pub mod messages;
+// The crates `archive` and `workshop` have the other doors; what they share with these is public here.
 pub mod records;
-pub mod replays;
 pub mod routine;
-pub mod sheet;
 pub mod transfer;
 pub mod trouble;
-pub mod why;

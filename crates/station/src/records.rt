@@ -1,5 +1,4 @@
-// The records that cross the doors. Each begins with the refusal's number (0 for accepted) and the two values that it carries;
-// after a refusal every other field is 0, but for the state of a recorded transfer, for the field and the offset of a reason, and for the count of a joined buffer.
+// The records that cross the doors. Each begins with the refusal's number (0 for accepted) and the two values that it carries; after a refusal every other field is 0.
 use file_operation::rewrite::RewriteAnswer;
 use wire::refusal::Refusal;
 use wire::write::WriteAnswer;
@@ -80,29 +79,8 @@ pub struct NextTroubleCodeRecord {
     pub tail: u64,
 }
 
-// A sheet of records counted: month by month, ten counts each.
-#[repr(C)]
-pub struct TallyRecord {
-    pub number: u64,
-    pub first: u64,
-    pub second: u64,
-    pub cells: [u32; 120],
-}
-
-// The state of a recorded transfer, or beside a refusal the state before it. `open` and `has_last` are 0 or 1; without a last counter `last` is 0.
-#[repr(C)]
-pub struct ReplayRecord {
-    pub number: u64,
-    pub first: u64,
-    pub second: u64,
-    pub open: u64,
-    pub has_last: u64,
-    pub last: u64,
-    pub repeats: u64,
-    pub total: u64,
-}
-
-pub(crate) fn refused_write(e: Refusal) -> WrittenRecord
+// What a writer that refuses hands out.
+pub fn refused_write(e: Refusal) -> WrittenRecord
     ensures { λ r. ⌜ r ≡ writtenRecord (refused (row e)) ⌝ }
 {
     WrittenRecord {
@@ -113,7 +91,8 @@ pub(crate) fn refused_write(e: Refusal) -> WrittenRecord
     }
 }
 
-pub(crate) fn flat_write(a: WriteAnswer) -> WrittenRecord
+// What a writer hands out, accepted or refused.
+pub fn flat_write(a: WriteAnswer) -> WrittenRecord
     ensures { λ r. ⌜ r ≡ writtenRecord (told a) ⌝ }
 {
     match a {

@@ -37,7 +37,8 @@ fn refused_read(e: Refusal) -> RoutineRecord
     }
 }
 
-pub(crate) fn bit(b: bool) -> u64
+// 1 for true.
+pub fn bit(b: bool) -> u64
     ensures { λ r. ⌜ r ≡ bitOf b ⌝ }
 {
     if b { 1 } else { 0 }
@@ -64,7 +65,8 @@ fn accepted_message(
     }
 }
 
-pub(crate) fn accepted_request(q: RoutineControlRequest) -> RoutineRecord
+// The record of a request that was read.
+pub fn accepted_request(q: RoutineControlRequest) -> RoutineRecord
     ensures { λ r. ⌜ r ≡ acceptedRoutineRequest q ⌝ }
 {
     let sub_function = q.sub_function;
@@ -92,7 +94,8 @@ pub extern "C" fn skr_read_routine_request(message: &[u8]) -> RoutineRecord
     flat_request(read_routine_request(message))
 }
 
-pub(crate) fn accepted_response(q: RoutineControlResponse) -> RoutineRecord
+// The record of a response that was read.
+pub fn accepted_response(q: RoutineControlResponse) -> RoutineRecord
     ensures { λ r. ⌜ r ≡ acceptedRoutineResponse q ⌝ }
 {
     let sub_function = q.sub_function;

@@ -87,7 +87,8 @@ fn accepted_message(
     }
 }
 
-pub(crate) fn accepted_request(q: RequestFileTransferRequest, tail: usize) -> FileTransferRecord
+// The record of a request that was read, and of where it ends.
+pub fn accepted_request(q: RequestFileTransferRequest, tail: usize) -> FileTransferRecord
     ensures { λ r. ⌜ r ≡ acceptedRequest q tail ⌝ }
 {
     let kind = q.kind;
@@ -118,7 +119,8 @@ pub extern "C" fn skr_read_request(message: &[u8]) -> FileTransferRecord
     flat_request(read_request(message))
 }
 
-pub(crate) fn accepted_response(q: RequestFileTransferResponse, tail: usize) -> FileTransferRecord
+// The record of a response that was read, and of where it ends.
+pub fn accepted_response(q: RequestFileTransferResponse, tail: usize) -> FileTransferRecord
     ensures { λ r. ⌜ r ≡ acceptedResponse q tail ⌝ }
 {
     let kind = q.kind;

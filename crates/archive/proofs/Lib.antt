@@ -1,0 +1,4 @@
+pub mod Sheets
+pub mod Stepped
+pub mod Whole
+pub mod Unique

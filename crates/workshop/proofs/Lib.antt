@@ -1,0 +1,2 @@
+pub mod Subs
+pub mod Unique

@@ -1,0 +1,39 @@
+-- No second record meets the contract of a door, and for a writer no second final contents of the room.
+-- Assumes nothing.
+use mathlib.Core.Path.{_≡_, sym, _∙_}
+use contract.Lifetimes.{Lfts}
+use denote.Ref.{now}
+use denote.Triple.Clauses.{AtExit}
+use borrow.Fn.Kinds.{endedOf}
+use borrow.Fn.World.{ArgsD}
+use Rattle.wire.proofs.Unique.{Determined}
+use Rattle.station.specs.declared.records.WrittenRecord.{WrittenRecord}
+use Rattle.workshop.proofs.listings.skr_read_listing.Kinds as read-listing-kinds
+use Rattle.workshop.proofs.listings.skr_read_listing.Reads as read-listing-reads
+use Rattle.workshop.proofs.listings.skr_listing_record.Kinds as listing-record-kinds
+use Rattle.workshop.proofs.listings.skr_listing_record.Reads as listing-record-reads
+use Rattle.workshop.proofs.listings.skr_listing_index.Kinds as listing-index-kinds
+use Rattle.workshop.proofs.listings.skr_listing_index.Reads as listing-index-reads
+use Rattle.workshop.proofs.listings.skr_listing_lookup.Kinds as listing-lookup-kinds
+use Rattle.workshop.proofs.listings.skr_listing_lookup.Reads as listing-lookup-reads
+use Rattle.workshop.proofs.listings.skr_write_listing as write-listing
+use Rattle.workshop.proofs.listings.skr_write_listing.Kinds as write-listing-kinds
+use Rattle.workshop.proofs.listings.skr_write_listing.Reads as write-listing-reads
+
+-- ---- readers and questions
+pub read-listing-determined : Determined 1 read-listing-kinds.ps read-listing-kinds.r read-listing-reads.Post
+read-listing-determined κs a x y r₁ r₂ p q = p ∙ sym q
+
+pub listing-record-determined : Determined 1 listing-record-kinds.ps listing-record-kinds.r listing-record-reads.Post
+listing-record-determined κs a x y r₁ r₂ p q = p ∙ sym q
+
+pub listing-index-determined : Determined 1 listing-index-kinds.ps listing-index-kinds.r listing-index-reads.Post
+listing-index-determined κs a x y r₁ r₂ p q = p ∙ sym q
+
+pub listing-lookup-determined : Determined 3 listing-lookup-kinds.ps listing-lookup-kinds.r listing-lookup-reads.Post
+listing-lookup-determined κs a x y r₁ r₂ p q = p ∙ sym q
+
+-- ---- the writer: the record, and what the room, the last parameter, holds at the exit
+pub write-listing-determined : (κs : Lfts 2) (a : ArgsD write-listing.signature κs) (x y : AtExit (endedOf 2 write-listing-kinds.ps write-listing-kinds.r) κs) (r s : WrittenRecord)
+    → write-listing-reads.Post κs a r x → write-listing-reads.Post κs a s y → (r ≡ s) × (now (x .1 .1 .1 .0) ≡ now (y .1 .1 .1 .0))
+write-listing-determined κs a x y r s p q = (p .0 ∙ sym (q .0), p .1 ∙ sym (q .1))

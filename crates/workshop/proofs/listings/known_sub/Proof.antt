@@ -1,0 +1,15 @@
+-- `workshop::listings::known_sub` meets its contract: one byte stands for a sub-function.
+-- Assumes nothing.
+use borrow.Author.Needs.{needs}
+use borrow.Author.Tests.{eq-eqb, ne-eqb}
+use Rattle.workshop.proofs.listings.known_sub.Statement.{statement}
+use Rattle.workshop.proofs.listings.known_sub.Tie as tie
+
+returns : tie.Need-returns
+returns c = rw (eq-eqb _ _ (c .if1 .taken))
+
+returns-2 : tie.Need-returns-2
+returns-2 c = rw (ne-eqb _ _ (c .if1 .left))
+
+pub known-sub-spec : {M : Type 1} → statement M
+known-sub-spec = tie.close (tie.spec returns returns-2)

@@ -1,0 +1,2 @@
+// The doors for C and for Rust to trouble-code listings, over flat records, with no logic of its own: each answers on every input.
+pub mod listings;
