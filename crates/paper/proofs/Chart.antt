@@ -3,6 +3,7 @@
 use Prim.Native.Nat.{ℕ, _+_, _-_, _*_, _/_, _≤_, _<_}
 use Prim.Native.String.{String}
 use mathlib.Core.Path.{_≡_, refl}
+use mathlib.Core.Bool.{true, false}
 use mathlib.Core.List.{List, [], _∷_, _++_, map}
 use native.Mathlib.Nat.{mul-div-le, le-div-iff-mul-le, div-le-of-le-mul}
 use native.Mathlib.Omega.{arith}
@@ -169,6 +170,11 @@ pub whole-picture : chart fourMonths ≡ joined drawn
 unfolding sum decimalIn decimal filledIn opening closing ofYear heading plain slanted straight dotted patterns axes emptyNote fits topOf divisions scaleLine scaleFrom scale height part partsFrom nameOf figures noRecords monthDrawn monthsFrom occurs words entry legendFrom chart
 whole-picture = refl
 
+-- the legend has the numbers that occur in some month, and no other
+pub in-legend : map (λ (n : ℕ). occurs n ((5 ∷ 0 ∷ 2 ∷ 0 ∷ 0 ∷ []) ∷ (1 ∷ 0 ∷ 0 ∷ 3 ∷ 0 ∷ []) ∷ [])) (0 ∷ 1 ∷ 2 ∷ 3 ∷ 4 ∷ []) ≡ true ∷ false ∷ true ∷ true ∷ false ∷ []
+unfolding occurs
+in-legend = refl
+
 -- a year without any record
 pub empty-year : emptyNote (replicate 12 (replicate 10 0)) ≡ ascii "<text x='540' y='330' text-anchor='middle' font-size='20' fill='#777'>no records in this year</text>\n"
 unfolding sum ofYear emptyNote
@@ -179,6 +185,7 @@ abbrev pub rows : List (List ℕ × String)
 rows =
     (1 ∷ 2 ∷ 0 ∷ 3 ∷ 4 ∷ 5 ∷ 6 ∷ [], "<text x='90' y='48' font-size='26'>refused 10 0 0</text>\n")
     ∷ (replicate 65536 0, "<text x='90' y='48' font-size='26'>refused 11 0 0</text>\n")
+    ∷ (1 ∷ 7 ∷ 0 ∷ 0 ∷ 0 ∷ 0 ∷ 0 ∷ 0 ∷ 13 ∷ 7 ∷ 0 ∷ 0 ∷ 0 ∷ 0 ∷ 0 ∷ 0 ∷ [], "<text x='90' y='48' font-size='26'>refused 11 1 0</text>\n")
     ∷ (replicate 65537 0, "<text x='90' y='48' font-size='26'>too long</text>\n")
     ∷ []
 
