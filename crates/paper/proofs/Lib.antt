@@ -36,4 +36,5 @@ pub mod WholeMessage
 pub mod MessageVectors
 pub mod Listing
 pub mod ListingIndex
+pub mod FirstPlace
 pub mod ListingVectors

@@ -16,7 +16,7 @@ use Rattle.paper.specs.Answer.{Refusal, accepted, refused, noSuchCode, o
 use Rattle.paper.specs.Bytes.{Bytes}
 use Rattle.paper.specs.TroubleCode.{TroubleCode, troubleCode}
 use Rattle.paper.specs.Tally.{count, sum}
-use Rattle.paper.specs.Listing.{SubFunction, byStatusMask, Listed, recordBytes, Listing, readListing, recordsBytes, listingBytes}
+use Rattle.paper.specs.Listing.{SubFunction, byStatusMask, bySeverityMask, Listed, recordBytes, Listing, readListing, recordsBytes, listingBytes}
 use Rattle.paper.specs.Listing.{firstPlace, hasHigh, howMany, firstWith, numbersFrom, Index, indexOf, zeroIndex, sameNumbers, ownIndex, hasCode, Found, find, lookUp, First, NoneHas}
 use Rattle.paper.proofs.Choice.{both-true, never}
 use Rattle.paper.proofs.Bytes.{bytes-right}
@@ -188,10 +188,11 @@ high-bytes : (f : SubFunction) (rs : List Listed) → Bytes (recordsBytes f rs) 
 unfolding recordsBytes
 high-bytes f [] h = tt
 high-bytes byStatusMask (r ∷ rs) h = (h .0, high-bytes byStatusMask rs (bytes-right (recordBytes byStatusMask r) (recordsBytes byStatusMask rs) h))
+high-bytes bySeverityMask (r ∷ rs) h = (h .1 .1 .0, high-bytes bySeverityMask rs (bytes-right (recordBytes bySeverityMask r) (recordsBytes bySeverityMask rs) h))
 
 pub read-bytes : (f : SubFunction) (s : List ℕ) {l : Listing} → Bytes s → readListing f s ≡ accepted l → HighBytes (l .records)
 unfolding listingBytes
-read-bytes f s {l} bytes e = let (_, _, is) = accepted-is f s e in high-bytes (l .subFunction) (l .records) ((rw is at bytes) .1 .1 .1)
+read-bytes f s {l} bytes e = let (_, _, _, is) = accepted-is f s e in high-bytes (l .subFunction) (l .records) ((rw is at bytes) .1 .1 .1)
 
 pub counts-add-up : (f : SubFunction) (s : List ℕ) {l : Listing} → Bytes s → readListing f s ≡ accepted l → sum (indexOf (l .records) .counts) ≡ length (l .records)
 counts-add-up f s {l} bytes e = counts-sum (l .records) (read-bytes f s bytes e)

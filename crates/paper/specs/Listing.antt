@@ -1,7 +1,8 @@
--- Document 02, Req 09: trouble-code listings, the answer to ISO 14229-1 ReadDTCInformation, with an index beside them. The sub-function, and with it a record's form, is a parameter of every definition.
+-- Document 02, Req 09 and Req 10: trouble-code listings, the answer to ISO 14229-1 ReadDTCInformation, with an index beside them. The sub-function, and with it a record's form, is a parameter of
+-- every definition; index and lookup are stated once over both.
 use Prim.Native.Nat.{ℕ, zero, suc, _-_, _/_, _%_, _<_, _≤_}
 use mathlib.Core.Path.{_≡_}
-use mathlib.Core.Bool.{Bool, true, false}
+use mathlib.Core.Bool.{Bool, true, false, not}
 use mathlib.Core.List.{List, [], _∷_, _++_, map}
 use mathlib.Core.Option.{Option, none, some}
 use lib.ListN.{length, getD, getElem?, drop, replicate}
@@ -11,32 +12,46 @@ use Rattle.paper.specs.Answer.{tooShort, cut, outOfRange, tooMany, unkno
 use Rattle.paper.specs.Bytes.{Bytes}
 use Rattle.paper.specs.TroubleCode.{TroubleCode, troubleCode, troubleCodeBytes}
 use Rattle.paper.specs.Tally.{count}
+use Rattle.paper.specs.Joined.{Each}
 
 -- ---- the sub-functions, and a record in each
 pub data SubFunction : Type 0 where
   byStatusMask : SubFunction
+  bySeverityMask : SubFunction
 
 abbrev pub subFunctionByte : SubFunction → ℕ
 subFunctionByte byStatusMask = 0x02
+subFunctionByte bySeverityMask = 0x08
 
--- the shared trouble-code record: a code and its status
+-- the shared trouble-code record: whether severity and functional unit are known, these two, a code and its status
 pub record Listed : Type 0 where
+  pub known : Bool
+  pub severity : ℕ
+  pub functionalUnit : ℕ
   pub code : TroubleCode
   pub status : ℕ
 
-abbrev pub listed : TroubleCode → ℕ → Listed
-listed c st = record { code = c; status = st }
+-- severity and functional unit are unknown, both 0
+abbrev pub unknownSeverity : TroubleCode → ℕ → Listed
+unknownSeverity c st = record { known = false; severity = 0; functionalUnit = 0; code = c; status = st }
+
+-- they are known
+abbrev pub knownSeverity : ℕ → ℕ → TroubleCode → ℕ → Listed
+knownSeverity severity unit c st = record { known = true; severity = severity; functionalUnit = unit; code = c; status = st }
 
 abbrev pub recordSize : SubFunction → ℕ
 recordSize byStatusMask = 4
+recordSize bySeverityMask = 6
 
--- the record at the start of some bytes: three code bytes and a status byte
+-- the record at the start of some bytes: three code bytes and a status byte, in the second form after severity and functional unit
 abbrev pub recordOf : SubFunction → List ℕ → Listed
-recordOf byStatusMask b = listed (troubleCode (getD b 0 0) (getD b 1 0) (getD b 2 0)) (getD b 3 0)
+recordOf byStatusMask b = unknownSeverity (troubleCode (getD b 0 0) (getD b 1 0) (getD b 2 0)) (getD b 3 0)
+recordOf bySeverityMask b = knownSeverity (getD b 0 0) (getD b 1 0) (troubleCode (getD b 2 0) (getD b 3 0) (getD b 4 0)) (getD b 5 0)
 
 -- and its bytes
 abbrev pub recordBytes : SubFunction → Listed → List ℕ
 recordBytes byStatusMask r = troubleCodeBytes (r .code) ++ (r .status ∷ [])
+recordBytes bySeverityMask r = r .severity ∷ r .functionalUnit ∷ troubleCodeBytes (r .code) ++ (r .status ∷ [])
 
 -- ---- a listing
 pub record Listing : Type 0 where
@@ -51,10 +66,14 @@ listing f m rs = record { subFunction = f; mask = m; records = rs }
 abbrev pub answerByte : ℕ
 answerByte = 0x59
 
--- n records, one after the other
+-- n records, one after the other, each of so many bytes
+unfoldable pub oneByOne : (size : ℕ) → (List ℕ → Listed) → ℕ → List ℕ → List Listed
+oneByOne size of zero s = []
+oneByOne size of (suc n) s = of s ∷ oneByOne size of n (drop size s)
+
+-- the records of a sub-function
 unfoldable pub recordsIn : SubFunction → ℕ → List ℕ → List Listed
-recordsIn f zero s = []
-recordsIn f (suc n) s = recordOf f s ∷ recordsIn f n (drop (recordSize f) s)
+recordsIn f n s = oneByOne (recordSize f) (recordOf f) n s
 
 -- how many whole records the bytes after the mask have
 abbrev pub wholeRecords : SubFunction → List ℕ → ℕ
@@ -93,41 +112,61 @@ recordsBytes f (r ∷ rs) = recordBytes f r ++ recordsBytes f rs
 unfoldable pub listingBytes : Listing → List ℕ
 listingBytes l = answerByte ∷ subFunctionByte (l .subFunction) ∷ l .mask ∷ recordsBytes (l .subFunction) (l .records)
 
--- 12 for more than 4,096 records (the check of room, 7, comes with the buffer)
-unfoldable pub writeListing : Listing → Answer (List ℕ)
-writeListing l = check (leb (length (l .records)) 4096) tooMany (accepted (listingBytes l))
+-- the place of the first element that passes a test, counted from 0; where none does, as many as there are
+unfoldable pub firstPlace : {A : Type 0} → (A → Bool) → List A → ℕ
+firstPlace test [] = 0
+firstPlace test (x ∷ xs) = pick (test x) 0 (suc (firstPlace test xs))
 
--- records as a caller hands them over: three code bytes and a status byte each, whatever the sub-function
+-- a record that can't be written so: of 0x02 one with known severity, of 0x08 one without
+abbrev pub unfit : SubFunction → Listed → Bool
+unfit byStatusMask r = r .known
+unfit bySeverityMask r = not (r .known)
+
+-- where the first such record stands
+abbrev pub firstUnfit : Listing → ℕ
+firstUnfit l = firstPlace (unfit (l .subFunction)) (l .records)
+
+-- 12 for more than 4,096 records, then 11 with the place of the first that can't be written so (the check of room, 7, comes with the buffer)
+unfoldable pub writeListing : Listing → Answer (List ℕ)
+writeListing l =
+    check (leb (length (l .records)) 4096) tooMany
+    (check (eqb (firstUnfit l) (length (l .records))) (outOfRange (firstUnfit l))
+    (accepted (listingBytes l)))
+
+-- records as a caller hands them over, whatever the sub-function: a mark, severity, functional unit, three code bytes and a status byte each. The mark decides: where it is 0 the two after it are
+-- unknown, whatever stands there
 abbrev pub handedSize : ℕ
-handedSize = 4
+handedSize = 7
 
 abbrev pub handedOf : List ℕ → Listed
-handedOf b = listed (troubleCode (getD b 0 0) (getD b 1 0) (getD b 2 0)) (getD b 3 0)
+handedOf b =
+    let c = troubleCode (getD b 3 0) (getD b 4 0) (getD b 5 0) in
+    pick (eqb (getD b 0 0) 0) (unknownSeverity c (getD b 6 0)) (knownSeverity (getD b 1 0) (getD b 2 0) c (getD b 6 0))
 
 unfoldable pub handedIn : ℕ → List ℕ → List Listed
-handedIn zero b = []
-handedIn (suc n) b = handedOf b ∷ handedIn n (drop handedSize b)
+handedIn n b = oneByOne handedSize handedOf n b
 
--- 12 for more than 4,096 whole ones, then 10 for a cut one (and then 7, with the buffer)
+-- 12 for more than 4,096 whole ones, then 10 for a cut one, then 11 (and then 7, with the buffer)
 unfoldable pub writeHanded : SubFunction → ℕ → List ℕ → Answer (List ℕ)
 writeHanded f m b =
     check (leb (length b / handedSize) 4096) tooMany
     (check (eqb (length b % handedSize) 0) cut
     (writeListing (listing f m (handedIn (length b / handedSize) b))))
 
--- a listing's way of being written: its sub-function, few enough records, its numbers bytes
+-- a record as the sub-function has it: of 0x02 severity and functional unit are unknown, both 0, and of 0x08 they are known
+abbrev pub InForm : SubFunction → Listed → Type 0
+InForm byStatusMask r = (r .known ≡ false) × (r .severity ≡ 0) × (r .functionalUnit ≡ 0)
+InForm bySeverityMask r = r .known ≡ true
+
+-- a listing's way of being written: its sub-function, few enough records, each in its form, its numbers bytes
 pub record ListingWay (f : SubFunction) (l : Listing) (s : List ℕ) : Type 0 where
   pub kind : l .subFunction ≡ f
   pub few : length (l .records) ≤ 4096
+  pub form : Each (InForm f) (l .records)
   pub bytes : Bytes (listingBytes l)
   pub is : s ≡ listingBytes l
 
 -- ---- the index
--- the place of the first element that passes a test, counted from 0; where none does, as many as there are
-unfoldable pub firstPlace : {A : Type 0} → (A → Bool) → List A → ℕ
-firstPlace test [] = 0
-firstPlace test (x ∷ xs) = pick (test x) 0 (suc (firstPlace test xs))
-
 -- the record has this high byte
 abbrev pub hasHigh : ℕ → Listed → Bool
 hasHigh h r = eqb (r .code .high) h
