@@ -1,4 +1,5 @@
 pub mod Reading
 pub mod Turns
+pub mod Writing
 pub mod Unique
 pub mod Calls

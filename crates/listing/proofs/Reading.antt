@@ -15,22 +15,10 @@ use Rattle.paper.specs.Choice.{both}
 use Rattle.paper.specs.Answer.{Refusal, Answer, accepted, refused, tooShort, unknownService, tooMany, cut}
 use Rattle.paper.specs.TroubleCode.{troubleCode}
 use Rattle.paper.specs.Listing as paper
-use Rattle.paper.specs.Listing.{byStatusMask, subFunctionByte, listed, recordSize, recordOf, Listing, listing, answerByte, recordsIn, wholeRecords, readListing, Head, headOf, recordAt, writeHanded}
+use Rattle.paper.specs.Listing.{byStatusMask, bySeverityMask, subFunctionByte, unknownSeverity, knownSeverity, recordSize, recordOf, Listing, listing, answerByte, recordsIn, wholeRecords, readListing, Head, headOf, recordAt}
 use Rattle.paper.proofs.Choice.{never, check-passed}
-use Rattle.paper.proofs.Listing.{no-cut, length-records, record-there, handed-whole, handed-laid}
-use Rattle.listing.specs.Listing.{subOf, Stands, Held}
-use Rattle.listing.specs.declared.SubFunction.{SubFunction}
-use Rattle.listing.specs.declared.SubFunction.the-variants.{ByStatusMask}
-
--- ---- what goes by the sub-function: there is one
-pub byte-is : (x : SubFunction) → 0x02 ≡ subFunctionByte (subOf x)
-byte-is ByStatusMask = refl
-
-pub whole-is : (x : SubFunction) (n : ℕ) → n / 4 ≡ n / recordSize (subOf x)
-whole-is ByStatusMask n = refl
-
-pub left-over-is : (x : SubFunction) (n : ℕ) → n % 4 ≡ n % recordSize (subOf x)
-left-over-is ByStatusMask n = refl
+use Rattle.paper.proofs.Listing.{no-cut, length-records, record-there}
+use Rattle.listing.specs.Listing.{Stands, Held}
 
 -- ---- the answers of reading
 both-false : (x : Bool) → both x false ≡ false
@@ -136,16 +124,17 @@ module _ (f : paper.SubFunction) (s : List ℕ) (m n : ℕ) (h : Holds f s m n) 
     pub here : {r : paper.Listed} → r ≡ recordOf f (drop (recordSize f * k) (drop 3 s)) → some r ≡ recordAt k (readListing f s)
     here e = rw (h .read, e) (sym there)
 
--- ---- four bytes are a record
-pub four-are : (s : List ℕ) (at : ℕ) → listed (troubleCode (getD s at 0) (getD s (at + 1) 0) (getD s (at + 2) 0)) (getD s (at + 3) 0) ≡ recordOf byStatusMask (drop at s)
-four-are s at = let e : at + 0 ≡ at = omega arith in simp (getD-drop, e)
+-- ---- the bytes of a record
+module _ (s : List ℕ) (at : ℕ) where
+  first : at + 0 ≡ at
+  first = omega arith
 
-pub four-there : (x : SubFunction) (s : List ℕ) (k : ℕ) → recordOf byStatusMask (drop (3 + 4 * k) s) ≡ recordOf (subOf x) (drop (recordSize (subOf x) * k) (drop 3 s))
-four-there ByStatusMask s k = ap (recordOf byStatusMask) (sym (drop-drop (4 * k) 3 s))
+  pub four-are : unknownSeverity (troubleCode (getD s at 0) (getD s (at + 1) 0) (getD s (at + 2) 0)) (getD s (at + 3) 0) ≡ recordOf byStatusMask (drop at s)
+  four-are = simp (getD-drop, first)
 
-pub four-fit : (x : SubFunction) (s : List ℕ) (k : ℕ) → Stands (subOf x) k s → 3 + 4 * k + 4 ≤ length s
-four-fit ByStatusMask s k h = omega (arith, h .long)
+  pub six-are : knownSeverity (getD s at 0) (getD s (at + 1) 0) (troubleCode (getD s (at + 2) 0) (getD s (at + 3) 0) (getD s (at + 4) 0)) (getD s (at + 5) 0) ≡ recordOf bySeverityMask (drop at s)
+  six-are = simp (getD-drop, first)
 
--- ---- records that are handed over make a listing of their own bytes
-pub handed-plain : (x : SubFunction) (m : ℕ) (b : List ℕ) → length b / 4 ≤ 4096 → length b % 4 ≡ 0 → writeHanded (subOf x) m b ≡ accepted (answerByte ∷ subFunctionByte byStatusMask ∷ m ∷ b)
-handed-plain ByStatusMask m b few whole = handed-whole byStatusMask m b few whole ∙ ap accepted (handed-laid m (length b / 4) b (omega arith))
+-- a record stands behind the three bytes of the head
+pub behind-head : (f : paper.SubFunction) (s : List ℕ) (k : ℕ) → recordOf f (drop (3 + recordSize f * k) s) ≡ recordOf f (drop (recordSize f * k) (drop 3 s))
+behind-head f s k = ap (recordOf f) (sym (drop-drop (recordSize f * k) 3 s))

@@ -15,7 +15,7 @@ use borrow.Author.Tests.{eq-eqb, ne-eqb}
 use Rattle.paper.specs.Choice.{pick, both}
 use Rattle.paper.specs.Answer.{accepted, refused, noSuchCode}
 use Rattle.paper.specs.TroubleCode.{TroubleCode}
-use Rattle.paper.specs.Listing.{SubFunction, Listed, recordSize, recordOf, recordsIn, howMany, firstWith, numbersFrom, Index, indexOf, sameNumbers, ownIndex, hasHigh, hasCode, find}
+use Rattle.paper.specs.Listing.{SubFunction, Listed, recordSize, recordOf, oneByOne, recordsIn, howMany, firstWith, numbersFrom, Index, indexOf, sameNumbers, ownIndex, hasHigh, hasCode, find}
 use Rattle.paper.proofs.Listing.{length-records, record-there, records-more}
 use Rattle.paper.proofs.ListingIndex.{no-counts, no-firsts, counted-more, new-first, old-first, count-small, count-at, first-at, own-only, Searching, search-starts, search-within, search-found, search-less, search-on}
 use Rattle.dtc.specs.Status.{sameCode}
@@ -50,11 +50,11 @@ length-firsts rs = length-numbers (firstWith rs) 0 256
 
 -- before the first record: all zeros
 pub none-counted : (f : SubFunction) (s : List ℕ) → replicate 256 0 ≡ indexOf (recordsOf f 0 s) .counts
-unfolding recordsIn
+unfolding oneByOne recordsIn
 none-counted f s = sym no-counts
 
 pub none-first : (f : SubFunction) (s : List ℕ) → replicate 256 0 ≡ indexOf (recordsOf f 0 s) .firsts
-unfolding recordsIn
+unfolding oneByOne recordsIn
 none-first f s = sym no-firsts
 
 more : (f : SubFunction) (s : List ℕ) (k : ℕ) → recordsOf f (k + 1) s ≡ recordsOf f k s ++ (recordHere f s k ∷ [])

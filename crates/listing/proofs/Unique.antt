@@ -29,6 +29,10 @@ use Rattle.listing.proofs.index.index_listing.Kinds as index-listing-ki
 use Rattle.listing.proofs.index.index_listing.Reads as index-listing
 use Rattle.listing.proofs.index.look_up.Kinds as look-up-kinds
 use Rattle.listing.proofs.index.look_up.Reads as look-up
+use Rattle.listing.proofs.write.put_head.Kinds as put-head-kinds
+use Rattle.listing.proofs.write.put_head.Reads as put-head
+use Rattle.listing.proofs.write.put_record.Kinds as put-record-kinds
+use Rattle.listing.proofs.write.put_record.Reads as put-record
 use Rattle.listing.proofs.write.write_listing.Kinds as write-listing-kinds
 use Rattle.listing.proofs.write.write_listing.Reads as write-listing
 
@@ -40,7 +44,13 @@ refusal-determined κs a x y r₁ r₂ p q = p ∙ sym q
 
 -- ---- the answers that the paper's stand for
 abbrev pub listedBack : paper.Listed → Listed
-listedBack r = record { code = record { «high_byte» = r .code .high; «middle_byte» = r .code .middle; «low_byte» = r .code .low }; status = record { bits = r .status } }
+listedBack r = record {
+  known = r .known;
+  severity = record { bits = r .severity };
+  «functional_unit» = r .functionalUnit;
+  code = record { «high_byte» = r .code .high; «middle_byte» = r .code .middle; «low_byte» = r .code .low };
+  status = record { bits = r .status };
+}
 
 abbrev pub headBack : Answer Head → ListingAnswer
 headBack (accepted h) = ListingAnswer.Accepted (record { bits = h .mask }) (h .records)
@@ -88,5 +98,11 @@ pub look-up-determined : Determined 3 look-up-kinds.ps look-up-kinds.r look-up.P
 look-up-determined κs a x y r₁ r₂ p q = sym (look-back r₁) ∙ ap lookBack (p ∙ sym q) ∙ look-back r₂
 
 -- ---- writing: the buffer too
+pub put-head-determined : WritesOnce 1 put-head-kinds.ps put-head-kinds.r (λ κs x. x .1 .1 .0) put-head.Post
+put-head-determined κs a x y r₁ r₂ p q = wrote-once p q
+
+pub put-record-determined : WritesOnce 1 put-record-kinds.ps put-record-kinds.r (λ κs x. x .1 .1 .0) put-record.Post
+put-record-determined κs a x y r₁ r₂ p q = wrote-once p q
+
 pub write-listing-determined : WritesOnce 2 write-listing-kinds.ps write-listing-kinds.r (λ κs x. x .1 .1 .1 .0) write-listing.Post
 write-listing-determined κs a x y r₁ r₂ p q = wrote-once p q

@@ -7,21 +7,22 @@ use lib.ListN.{length, drop}
 use Rattle.paper.specs.Answer as paper-answer
 use Rattle.paper.specs.Answer.{accepted, refused}
 use Rattle.paper.specs.Listing as paper
-use Rattle.paper.specs.Listing.{byStatusMask, listed, recordSize, recordsIn, Head}
+use Rattle.paper.specs.Listing.{byStatusMask, bySeverityMask, recordSize, recordsIn, Head}
 use Rattle.wire.specs.Refusals.{row}
 use Rattle.wire.specs.declared.refusal.Refusal.{Refusal}
 use Rattle.dtc.specs.Status.{codeOf}
 use Rattle.listing.specs.declared.SubFunction.{SubFunction}
-use Rattle.listing.specs.declared.SubFunction.the-variants.{ByStatusMask}
+use Rattle.listing.specs.declared.SubFunction.the-variants.{ByStatusMask, BySeverityMask}
 use Rattle.listing.specs.declared.Listed.{Listed}
 use Rattle.listing.specs.declared.ListingAnswer.{ListingAnswer}
 use Rattle.listing.specs.declared.RecordAnswer.{RecordAnswer}
 
 abbrev pub subOf : SubFunction → paper.SubFunction
 subOf ByStatusMask = byStatusMask
+subOf BySeverityMask = bySeverityMask
 
 abbrev pub listedOf : Listed → paper.Listed
-listedOf r = listed (codeOf (r .code)) (r .status .bits)
+listedOf r = record { known = r .known; severity = r .severity .bits; functionalUnit = r .«functional_unit»; code = codeOf (r .code); status = r .status .bits }
 
 -- what reading says
 abbrev pub headSaid : ListingAnswer → paper-answer.Answer Head

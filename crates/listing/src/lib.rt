@@ -1,25 +1,31 @@
 // Trouble-code listings, the answer to ISO 14229-1 ReadDTCInformation: read, written, and with an index beside them. Document 02 asks for them; the original has none.
-// A listing stays in its message: the answer byte, the sub-function and the availability mask, then the records, one after the other.
+// A listing stays in its message: the answer byte, the sub-function and the availability mask, then the records, one after the other. The sub-function says in which of two forms they are.
 pub mod index;
 pub mod write;
 
 use dtc::status::DtcRecord;
+use dtc::status::DtcSeverityMask;
 use dtc::status::DtcStatusMask;
 use wire::refusal::Refusal;
 ghost use mathlib.Core.Path.{_≡_};
 ghost use Prim.Native.Nat.{_/_, _%_, _+_, _*_, _≤_};
 ghost use lib.ListN.{length, drop};
-ghost use Rattle.paper.specs.Listing.{byStatusMask, subFunctionByte, recordSize, recordOf, readListing, headOf, recordAt};
+ghost use Rattle.paper.specs.Listing.{byStatusMask, bySeverityMask, subFunctionByte, recordSize, recordOf, readListing, headOf, recordAt};
 ghost use Rattle.listing.specs.Listing.{subOf, listedOf, headSaid, headRefusal, recordSaid, Stands};
 
 // Which question a listing answers, and with it a record's form.
 pub enum SubFunction {
     // 0x02: three code bytes and a status byte.
     ByStatusMask,
+    // 0x08: severity and functional unit, then these.
+    BySeverityMask,
 }
 
-// A record: a code and its status.
+// A record: whether severity and functional unit are known, these two, a code and its status. Unknown ones are read as 0.
 pub struct Listed {
+    pub known: bool,
+    pub severity: DtcSeverityMask,
+    pub functional_unit: u8,
     pub code: DtcRecord,
     pub status: DtcStatusMask,
 }
@@ -43,6 +49,7 @@ impl SubFunction {
     {
         match self {
             SubFunction::ByStatusMask => 0x02,
+            SubFunction::BySeverityMask => 0x08,
         }
     }
 }
@@ -65,6 +72,7 @@ fn whole(sub: SubFunction, len: usize) -> usize
 {
     match sub {
         SubFunction::ByStatusMask => len / 4,
+        SubFunction::BySeverityMask => len / 6,
     }
 }
 
@@ -74,6 +82,7 @@ fn left_over(sub: SubFunction, len: usize) -> usize
 {
     match sub {
         SubFunction::ByStatusMask => len % 4,
+        SubFunction::BySeverityMask => len % 6,
     }
 }
 
@@ -110,8 +119,25 @@ fn four_at(s: &[u8], at: usize) -> Listed
     ensures { λ r. ⌜ listedOf r ≡ recordOf byStatusMask (drop at (now (s .entry))) ⌝ }
 {
     Listed {
+        known: false,
+        severity: DtcSeverityMask::from_bits(0),
+        functional_unit: 0,
         code: DtcRecord::new(s[at], s[at + 1], s[at + 2]),
         status: DtcStatusMask::from_bits(s[at + 3]),
+    }
+}
+
+// The record whose six bytes begin here.
+fn six_at(s: &[u8], at: usize) -> Listed
+    requires { ⌜ at + 6 ≤ length (now s) ⌝ }
+    ensures { λ r. ⌜ listedOf r ≡ recordOf bySeverityMask (drop at (now (s .entry))) ⌝ }
+{
+    Listed {
+        known: true,
+        severity: DtcSeverityMask::from_bits(s[at]),
+        functional_unit: s[at + 1],
+        code: DtcRecord::new(s[at + 2], s[at + 3], s[at + 4]),
+        status: DtcStatusMask::from_bits(s[at + 5]),
     }
 }
 
@@ -122,6 +148,7 @@ fn record_in(sub: SubFunction, s: &[u8], k: usize) -> Listed
 {
     match sub {
         SubFunction::ByStatusMask => four_at(s, 3 + 4 * k),
+        SubFunction::BySeverityMask => six_at(s, 3 + 6 * k),
     }
 }
 
