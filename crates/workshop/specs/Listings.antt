@@ -4,9 +4,10 @@ use mathlib.Core.List.{List}
 use mathlib.Core.Option.{Option, none, some}
 use lib.ListN.{getElem?, replicate}
 use lib.Dec.{eqb}
-use Rattle.paper.specs.Answer.{Refusal, Answer, accepted, refused, unknownService, check}
+use Rattle.paper.specs.Choice.{pick}
+use Rattle.paper.specs.Answer.{Refusal, Answer, accepted, refused, unknownService}
 use Rattle.paper.specs.Listing as paper
-use Rattle.paper.specs.Listing.{SubFunction, byStatusMask, Listing, readListing, Head, indexOf, Found, writeHanded}
+use Rattle.paper.specs.Listing.{SubFunction, byStatusMask, bySeverityMask, Listing, readListing, Head, indexOf, Found, writeHanded}
 use Rattle.wire.specs.Refusals.{row}
 use Rattle.listing.specs.Listing.{subOf}
 use Rattle.listing.specs.declared.ListingAnswer.{ListingAnswer}
@@ -20,7 +21,7 @@ use Rattle.workshop.specs.declared.listings.LookUpRecord.{LookUpRecord}
 -- ---- what is handed over
 -- the sub-function of a byte: 15 where there is none
 abbrev pub listingSub : ℕ → Answer SubFunction
-listingSub b = check (eqb b 0x02) (unknownService 0) (accepted byStatusMask)
+listingSub b = pick (eqb b 0x02) (accepted byStatusMask) (pick (eqb b 0x08) (accepted bySeverityMask) (refused (unknownService 0)))
 
 abbrev pub subSaid : KnownSub → Answer SubFunction
 subSaid (KnownSub.Known f) = accepted (subOf f)
@@ -45,14 +46,26 @@ listingRecord (refused e) = record { number = e .number; first = e .first; secon
 
 -- a record that stands there; a place past the end; a listing that is refused
 abbrev pub foundListed : paper.Listed → ListedRecord
-foundListed r = record { number = 0; first = 0; second = 0; found = 1; high = r .code .high; middle = r .code .middle; low = r .code .low; status = r .status }
+foundListed r = record {
+  number = 0;
+  first = 0;
+  second = 0;
+  found = 1;
+  known = pick (r .known) 1 0;
+  severity = r .severity;
+  unit = r .functionalUnit;
+  high = r .code .high;
+  middle = r .code .middle;
+  low = r .code .low;
+  status = r .status;
+}
 
 abbrev pub placeRecord : Option paper.Listed → ListedRecord
 placeRecord (some r) = foundListed r
-placeRecord none = record { number = 0; first = 0; second = 0; found = 0; high = 0; middle = 0; low = 0; status = 0 }
+placeRecord none = record { number = 0; first = 0; second = 0; found = 0; known = 0; severity = 0; unit = 0; high = 0; middle = 0; low = 0; status = 0 }
 
 abbrev pub refusedListed : Refusal → ListedRecord
-refusedListed e = record { number = e .number; first = e .first; second = e .second; found = 0; high = 0; middle = 0; low = 0; status = 0 }
+refusedListed e = record { number = e .number; first = e .first; second = e .second; found = 0; known = 0; severity = 0; unit = 0; high = 0; middle = 0; low = 0; status = 0 }
 
 abbrev pub listedRecord : ℕ → Answer Listing → ListedRecord
 listedRecord k (accepted l) = placeRecord (getElem? (l .records) k)
@@ -70,10 +83,22 @@ flatIndex (ListingAnswer.Refused e) cs fs = record { number = row e .number; fir
 
 -- a lookup
 abbrev pub foundLookUp : ℕ → paper.Listed → LookUpRecord
-foundLookUp k r = record { number = 0; first = 0; second = 0; place = k; high = r .code .high; middle = r .code .middle; low = r .code .low; status = r .status }
+foundLookUp k r = record {
+  number = 0;
+  first = 0;
+  second = 0;
+  place = k;
+  known = pick (r .known) 1 0;
+  severity = r .severity;
+  unit = r .functionalUnit;
+  high = r .code .high;
+  middle = r .code .middle;
+  low = r .code .low;
+  status = r .status;
+}
 
 abbrev pub refusedLookUp : Refusal → LookUpRecord
-refusedLookUp e = record { number = e .number; first = e .first; second = e .second; place = 0; high = 0; middle = 0; low = 0; status = 0 }
+refusedLookUp e = record { number = e .number; first = e .first; second = e .second; place = 0; known = 0; severity = 0; unit = 0; high = 0; middle = 0; low = 0; status = 0 }
 
 abbrev pub lookUpRecord : Answer Found → LookUpRecord
 lookUpRecord (accepted x) = foundLookUp (x .place) (x .«record»)

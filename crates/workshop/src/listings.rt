@@ -17,6 +17,7 @@ use station::records::flat_write;
 use station::records::refused_write;
 use wire::refusal::Refusal;
 ghost use mathlib.Core.Path.{_≡_};
+ghost use Rattle.paper.specs.Choice.{pick};
 ghost use Rattle.paper.specs.TroubleCode.{troubleCode};
 ghost use Rattle.paper.specs.Listing.{headOf, lookUpIn};
 ghost use Rattle.wire.specs.Refusals.{row};
@@ -36,13 +37,16 @@ pub struct ListingRecord {
     pub count: u64,
 }
 
-// A record of a listing. `found` is 1, or 0 past the last record, and then the others are 0.
+// A record of a listing. `found` is 1, or 0 past the last record, and then the others are 0. `known` is 1 where severity and functional unit are known, else all three are 0.
 #[repr(C)]
 pub struct ListedRecord {
     pub number: u64,
     pub first: u64,
     pub second: u64,
     pub found: u64,
+    pub known: u64,
+    pub severity: u64,
+    pub unit: u64,
     pub high: u64,
     pub middle: u64,
     pub low: u64,
@@ -59,13 +63,16 @@ pub struct IndexRecord {
     pub firsts: [u32; 256],
 }
 
-// The record that has a code, and its place.
+// The record that has a code, and its place; `known` as above.
 #[repr(C)]
 pub struct LookUpRecord {
     pub number: u64,
     pub first: u64,
     pub second: u64,
     pub place: u64,
+    pub known: u64,
+    pub severity: u64,
+    pub unit: u64,
     pub high: u64,
     pub middle: u64,
     pub low: u64,
@@ -83,6 +90,9 @@ fn known_sub(sub: u8) -> KnownSub
 {
     if sub == 0x02 {
         return KnownSub::Known(SubFunction::ByStatusMask);
+    }
+    if sub == 0x08 {
+        return KnownSub::Known(SubFunction::BySeverityMask);
     }
     KnownSub::Unknown
 }
@@ -119,6 +129,13 @@ pub extern "C" fn skr_read_listing(sub: u8, listing: &[u8]) -> ListingRecord
     flat_head(read_listing(f, listing))
 }
 
+// 1 where it is so, else 0.
+fn one_if(b: bool) -> u64
+    ensures { λ r. ⌜ r ≡ pick b 1 0 ⌝ }
+{
+    if b { 1 } else { 0 }
+}
+
 fn refused_listed(e: Refusal) -> ListedRecord
     ensures { λ r. ⌜ r ≡ refusedListed (row e) ⌝ }
 {
@@ -127,6 +144,9 @@ fn refused_listed(e: Refusal) -> ListedRecord
         first: e.first() as u64,
         second: e.second() as u64,
         found: 0,
+        known: 0,
+        severity: 0,
+        unit: 0,
         high: 0,
         middle: 0,
         low: 0,
@@ -137,6 +157,7 @@ fn refused_listed(e: Refusal) -> ListedRecord
 fn found_listed(x: Listed) -> ListedRecord
     ensures { λ r. ⌜ r ≡ foundListed (listedOf x) ⌝ }
 {
+    let severity = x.severity;
     let c = x.code;
     let status = x.status;
     ListedRecord {
@@ -144,6 +165,9 @@ fn found_listed(x: Listed) -> ListedRecord
         first: 0,
         second: 0,
         found: 1,
+        known: one_if(x.known),
+        severity: severity.bits() as u64,
+        unit: x.functional_unit as u64,
         high: c.high_byte() as u64,
         middle: c.middle_byte() as u64,
         low: c.low_byte() as u64,
@@ -160,6 +184,9 @@ fn flat_record(a: RecordAnswer) -> ListedRecord
             first: 0,
             second: 0,
             found: 0,
+            known: 0,
+            severity: 0,
+            unit: 0,
             high: 0,
             middle: 0,
             low: 0,
@@ -233,6 +260,9 @@ fn refused_look_up(e: Refusal) -> LookUpRecord
         first: e.first() as u64,
         second: e.second() as u64,
         place: 0,
+        known: 0,
+        severity: 0,
+        unit: 0,
         high: 0,
         middle: 0,
         low: 0,
@@ -243,6 +273,7 @@ fn refused_look_up(e: Refusal) -> LookUpRecord
 fn found_look_up(place: usize, x: Listed) -> LookUpRecord
     ensures { λ r. ⌜ r ≡ foundLookUp place (listedOf x) ⌝ }
 {
+    let severity = x.severity;
     let c = x.code;
     let status = x.status;
     LookUpRecord {
@@ -250,6 +281,9 @@ fn found_look_up(place: usize, x: Listed) -> LookUpRecord
         first: 0,
         second: 0,
         place: place as u64,
+        known: one_if(x.known),
+        severity: severity.bits() as u64,
+        unit: x.functional_unit as u64,
         high: c.high_byte() as u64,
         middle: c.middle_byte() as u64,
         low: c.low_byte() as u64,
@@ -287,7 +321,7 @@ pub extern "C" fn skr_listing_lookup(
     flat_look_up(look_up(f, listing, counts, firsts, code))
 }
 
-// A listing from its mask and its records, four bytes each: three code bytes and a status byte.
+// A listing from its mask and its records, seven bytes each: whether severity and functional unit are known, these two, three code bytes and a status byte.
 #[no_mangle]
 pub extern "C" fn skr_write_listing(
     sub: u8,
