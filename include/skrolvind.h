@@ -5,8 +5,8 @@
  * function but a writer, or one that fills a list, changes a byte of what it is lent. Two slices that are lent to one call
  * must not overlap.
  *
- * Every record begins with three numbers: 0, 0, 0 where the call was accepted, else the number of the refusal and the two
- * values that it carries (docs/REFUSALS.md). After a refusal every other field is 0, but for the state of a recorded
+ * Every record that is answered begins with three numbers: 0, 0, 0 where the call was accepted, else the number of the refusal
+ * and the two values that it carries (docs/REFUSALS.md). After a refusal every other field is 0, but for the state of a recorded
  * transfer, for the field and the offset where it is asked why a message is refused, and for the count of a joined buffer that
  * is taken apart. A kind or a sub-function that does not exist is refused before anything else is looked at.
  *
@@ -16,6 +16,7 @@
 #ifndef SKROLVIND_H
 #define SKROLVIND_H
 
+#include <assert.h>
 #include <stdbool.h>
 #include <stddef.h>
 #include <stdint.h>
@@ -115,11 +116,33 @@ typedef struct {
     uint64_t mask, count;
 } skr_listing;
 
-/* A record of a listing: `found` is 1, or 0 past the last record, and then the others are 0. */
+/* A record of a listing: `found` is 1, or 0 past the last record, and then the others are 0. `known` is 1 where severity and
+ * functional unit are known, as they are in a listing of 0x08; else it is 0, and so are both. */
 typedef struct {
     uint64_t number, first, second;
-    uint64_t found, high, middle, low, status;
+    uint64_t found, known, severity, unit, high, middle, low, status;
 } skr_listed;
+
+/* What a severity says: its classes in bits 0 to 4, of which a valid one has at least one, and what to do in bits 5 to 7. */
+enum {
+    SKR_CLASS_0 = 0x01,
+    SKR_CLASS_1 = 0x02,
+    SKR_CLASS_2 = 0x04,
+    SKR_CLASS_3 = 0x08,
+    SKR_CLASS_4 = 0x10,
+    SKR_ANY_CLASS = 0x1F,
+    SKR_MAINTENANCE_ONLY = 0x20,
+    SKR_CHECK_AT_NEXT_HALT = 0x40,
+    SKR_CHECK_IMMEDIATELY = 0x80
+};
+
+/* A record as it is handed over to be written, seven bytes. A `known` of 0 says that severity and functional unit are unknown,
+ * whatever the two are; any other, that they are known. */
+typedef struct {
+    uint8_t known, severity, unit, high, middle, low, status;
+} skr_code_record;
+
+static_assert(sizeof(skr_code_record) == 7, "a record is handed over as seven bytes");
 
 /* The index of a listing, by the high byte of a code: counts[high] is how many records have it, firsts[high] the place (from 0)
  * of the first of them, 0 where there is none. After a refusal all are 0. */
@@ -131,7 +154,7 @@ typedef struct {
 /* The first record of a listing that has a code, and its place. */
 typedef struct {
     uint64_t number, first, second;
-    uint64_t place, high, middle, low, status;
+    uint64_t place, known, severity, unit, high, middle, low, status;
 } skr_found;
 
 /* Reads a file transfer request from the start of the message. */
@@ -248,9 +271,10 @@ skr_written skr_write_routine_response_message(uint8_t sub_function, uint16_t id
  * then 7. */
 skr_written skr_write_negative(uint8_t service, uint8_t code, uint8_t *room, size_t room_len);
 
-/* Reads a trouble-code listing, the answer to ReadDTCInformation: bytes 59 and `sub`, the availability mask, then records. `sub`
- * is 0x02: three code bytes and a status byte each. The listing stays where it is. Refusals: 15 for a `sub` that does not exist;
- * 1 for fewer than 3 bytes; 15 for wrong first bytes; 12 for more than 4,096 whole records; 10 for a cut one. None is good. */
+/* Reads a trouble-code listing, the answer to ReadDTCInformation: bytes 59 and `sub`, the availability mask, then records. A record
+ * of 0x02 is three code bytes and a status byte, one of 0x08 severity, functional unit, three code bytes and a status byte. The
+ * listing stays where it is, and severity is not judged. Refusals: 15 for a `sub` that does not exist; 1 for fewer than 3 bytes; 15
+ * for wrong first bytes; 12 for more than 4,096 whole records; 10 for a cut one. None is good. */
 skr_listing skr_read_listing(uint8_t sub, const uint8_t *listing, size_t listing_len);
 
 /* The record at a place, counted from 0. Any place may be asked for. Refusals as for reading. */
@@ -265,8 +289,10 @@ skr_found skr_listing_lookup(uint8_t sub, const uint8_t *listing, size_t listing
                              const uint32_t *counts, size_t counts_len, const uint32_t *firsts, size_t firsts_len,
                              uint8_t high, uint8_t middle, uint8_t low);
 
-/* Writes a listing at the start of the room, from records of four bytes each: three code bytes and a status byte. Refusals: 15
- * for a `sub` that does not exist, 12 for more than 4,096 whole records, 10 where records_len is no multiple of four, 7. */
+/* Writes a listing at the start of the room, from records of seven bytes each: those of skr_code_record, in their order. An array
+ * `skr_code_record list[N]` is handed over as `(const uint8_t *)list, sizeof list`, and n of its records with `n * sizeof *list`.
+ * Refusals: 15 for a `sub` that does not exist; 12 for more than 4,096 whole records; 10 where records_len is no multiple of seven;
+ * 11 with the place of the first record whose `known` does not fit, for 0x02 has no severity and 0x08 must have one; 7. */
 skr_written skr_write_listing(uint8_t sub, uint8_t mask, const uint8_t *records, size_t records_len,
                               uint8_t *room, size_t room_len);
 

@@ -1,4 +1,4 @@
-/* One fault at a time in front of the library, to see that the comparison finds it: SKROLVIND_FAULT is its number, 1 to 88; with 0 there is none.
+/* One fault at a time in front of the library, to see that the comparison finds it: SKROLVIND_FAULT is its number, 1 to 105; with 0 there is none.
  * Each function calls the library's own, which `try` has given the prefix real_, and spoils the answer. `try` counts the lines that have FAULT ==. */
 #include <stdlib.h>
 #include <string.h>
@@ -227,38 +227,67 @@ DOOR(skr_written, skr_write_negative, (uint8_t s, uint8_t c, uint8_t *r, size_t 
      if (FAULT == 78 && w.number == 11 && rn < 3) { w.number = 7; w.first = 3; w.second = rn; } /* 7 before 11 */
      return w;)
 
-/* How many whole records a listing has, and whether the one at a place has a code. */
-#define RECORDS(n) (((n) - 3) / 4)
-#define HAS(m, i, h, d, l) ((m)[3 + 4 * (i)] == (h) && (m)[4 + 4 * (i)] == (d) && (m)[5 + 4 * (i)] == (l))
+/* How many bytes a record of a listing has, how many whole records there are, and where the code of one begins. */
+#define SIZE(s) ((s) == 0x08 ? 6 : 4)
+#define RECORDS(s, n) (((n) - 3) / SIZE(s))
+#define CODE(s, i) (3 + SIZE(s) * (i) + SIZE(s) - 4)
+
+/* The first record that is handed over to be written whose mark does not fit, or how many there are. */
+static size_t unfit(uint8_t s, const uint8_t *d, size_t dn) {
+    size_t i = 0;
+    while (i < dn / 7 && (d[7 * i] != 0) == (s == 0x08)) i++;
+    return i;
+}
 
 DOOR(skr_listing, skr_read_listing, (uint8_t s, const uint8_t *m, size_t n),
      skr_listing r = real_skr_read_listing(s, m, n);
      if (FAULT == 79 && r.count == 4096) { r.number = 12; r.mask = 0; r.count = 0; } /* 4,096 records are too many */
-     if (FAULT == 80 && r.number == 10) { r.number = 0; r.mask = m[2]; r.count = RECORDS(n); } /* a cut record is passed over */
+     if (FAULT == 80 && r.number == 10) { r.number = 0; r.mask = m[2]; r.count = RECORDS(s, n); } /* a cut record is passed over */
+     if (FAULT == 89 && s == 0x08 && !r.number) r.count = (n - 3) / 4;      /* records with a severity are counted as those without */
+     if (FAULT == 90 && r.number == 15 && n > 2 && m[0] == 0x59) r = real_skr_read_listing(m[1], m, n); /* whatever was asked for, the listing's own sub-function is taken */
      return r;)
 
 DOOR(skr_listed, skr_listing_record, (uint8_t s, const uint8_t *m, size_t n, size_t p),
      skr_listed r = real_skr_listing_record(s, m, n, p);
-     if (FAULT == 81 && !r.number && !r.found && n > 3) r = real_skr_listing_record(s, m, n, RECORDS(n) - 1); /* past the end the last record is handed out */
+     if (FAULT == 81 && !r.number && !r.found && n > 3) r = real_skr_listing_record(s, m, n, RECORDS(s, n) - 1); /* past the end the last record is handed out */
+     if (FAULT == 91 && r.found) { uint64_t severity = r.severity; r.severity = r.unit; r.unit = severity; } /* severity and functional unit change places */
+     if (FAULT == 92 && r.found && !r.severity && !r.unit) r.known = 0;     /* a severity of 0 is taken for an unknown one */
+     if (FAULT == 93 && s == 0x08 && !r.number) r.known = 1;                /* past the end a severity is known */
      return r;)
 
 DOOR(skr_index, skr_listing_index, (uint8_t s, const uint8_t *m, size_t n),
      skr_index r = real_skr_listing_index(s, m, n);
      if (FAULT == 82 && !r.number) for (int h = 0; h < 256; h++) if (!r.counts[h]) r.firsts[h] = 1; /* the first place is 1 where there is no record */
      if (FAULT == 83) for (int h = 0; h < 256; h++) r.counts[h] &= 0xFF;    /* a count is held in a byte */
+     if (FAULT == 94 && s == 0x08 && !r.number) { memset(r.counts, 0, sizeof r.counts); for (size_t i = 0; i < RECORDS(s, n); i++) r.counts[m[3 + 6 * i]]++; } /* severities are counted in place of high bytes */
+     if (FAULT == 95 && s == 0x08 && !r.number) for (int h = 0; h < 256; h++) r.firsts[h] = 6 * r.firsts[h]; /* a first place counts bytes */
      return r;)
 
 DOOR(skr_found, skr_listing_lookup,
      (uint8_t s, const uint8_t *m, size_t n, const uint32_t *c, size_t cn, const uint32_t *f, size_t fn, uint8_t h, uint8_t d, uint8_t l),
      skr_found r = real_skr_listing_lookup(s, m, n, c, cn, f, fn, h, d, l);
-     if (FAULT == 84 && !r.number) for (size_t i = r.place; i < RECORDS(n); i++) if (HAS(m, i, h, d, l)) { r.place = i; r.status = m[6 + 4 * i]; } /* the last record that has the code */
-     if (FAULT == 85 && !r.number && r.place + 1 == RECORDS(n)) { memset(&r, 0, sizeof r); r.number = 16; } /* 16 where the code stands in the last record */
+     uint8_t code[] = {h, d, l};
+     if (FAULT == 84 && !r.number) for (size_t i = r.place; i < RECORDS(s, n); i++) if (!memcmp(m + CODE(s, i), code, 3)) { r.place = i; r.status = m[CODE(s, i) + 3]; } /* the last record that has the code */
+     if (FAULT == 85 && !r.number && r.place + 1 == RECORDS(s, n)) { memset(&r, 0, sizeof r); r.number = 16; } /* 16 where the code stands in the last record */
      skr_index own = real_skr_listing_index(s, m, n);
      skr_found by_own = real_skr_listing_lookup(s, m, n, own.counts, 256, own.firsts, 256, h, d, l);
      if (FAULT == 86 && r.number == 11 && by_own.number == 16) r = by_own;  /* 16 before 11 */
      if (FAULT == 87 && r.number == 11 && h < cn && h < fn && c[h] == own.counts[h] && f[h] == own.firsts[h]) r = by_own; /* the index is compared at the code's high byte alone */
+     if (FAULT == 96 && r.known && !(r.severity & SKR_ANY_CLASS)) { memset(&r, 0, sizeof r); r.number = 16; } /* a record whose severity names no class is passed over */
+     if (FAULT == 97 && r.known) r.severity = m[3];                         /* the severity of the first record stands for all */
      return r;)
 
 DOOR(skr_written, skr_write_listing, (uint8_t s, uint8_t k, const uint8_t *d, size_t dn, uint8_t *r, size_t rn),
-     if (FAULT == 88 && dn / 4 <= 4096) dn -= dn % 4;                       /* a cut record is left out */
-     return real_skr_write_listing(s, k, d, dn, r, rn);)
+     if (FAULT == 88 && dn / 7 <= 4096) dn -= dn % 7;                       /* a cut record is left out */
+     skr_written w = real_skr_write_listing(s, k, d, dn, r, rn);
+     size_t at = unfit(s, d, dn);
+     size_t needed = 3 + SIZE(s) * (dn / 7);
+     if (FAULT == 98 && w.number == 11 && rn < needed) { w.number = 7; w.first = needed; w.second = rn; } /* 7 before 11 */
+     if (FAULT == 99 && w.number == 10 && at < dn / 7) { w.number = 11; w.first = at; } /* 11 before 10 */
+     if (FAULT == 100 && w.number == 12 && at < 4096) { w.number = 11; w.first = at; } /* 11 before 12 */
+     if (FAULT == 101 && w.number == 11) w.first *= 7;                      /* the place counts bytes, not records */
+     if (FAULT == 102 && w.number == 11) for (size_t i = at; i < dn / 7; i++) if ((d[7 * i] == 0) == (d[7 * at] == 0)) w.first = i; /* the last record that does not fit is told */
+     if (FAULT == 103 && s == 0x08 && !w.number) for (size_t i = 0; i < dn / 7; i++) if (d[7 * i] > 1) { w.number = 11; w.first = i; w.written = 0; } /* a mark above 1 is none */
+     if (FAULT == 104 && s == 0x02 && w.number == 11 && !d[7 * at + 1] && !d[7 * at + 2]) { w.number = 0; w.first = 0; } /* a known severity of 0 is taken for an unknown one */
+     if (FAULT == 105 && w.number == 11 && rn >= needed) r[0] = 0x59;       /* the first byte is written before marks are judged */
+     return w;)

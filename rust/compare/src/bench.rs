@@ -12,7 +12,8 @@ use std::hint::black_box;
 const PLENTY: usize = 66_000;
 /// Bytes before the room and as many behind it, which nobody may touch.
 const AROUND: usize = 16;
-/// What is refused though its room is ample, an over-long part or a fault in a long name, is tried in plenty of room too.
+/// What is refused though its room is ample, an over-long part, a fault in a long name or a record of a listing, is tried in plenty
+/// of room too.
 const SHORT: usize = 255;
 
 pub struct Bench {
@@ -108,6 +109,26 @@ impl Bench {
         }
     }
 
+    /// A writing call that the original does not have, in rooms of several lengths: `wanted` is what a model of the rule writes in plenty
+    /// of room. What the call is lent for reading must stay as it was.
+    pub fn beside_model<F, B>(
+        &mut self,
+        writer: &Writer<'_, F, B>,
+        wanted: Result<Vec<u8>, Refusal>,
+        rule: Rule,
+    ) where
+        F: Fn(&mut [u8]) -> Written,
+        B: Fn(&mut [u8]) -> Option<Result<usize, skrolvind::Refusal>>,
+    {
+        let wanted = wanted.map(|bytes| {
+            self.plenty[..bytes.len()].copy_from_slice(&bytes);
+            bytes.len()
+        });
+        self.watched(writer.bytes, |bench| {
+            bench.in_rooms(writer, wanted, Some(rule));
+        });
+    }
+
     /// A writing call in rooms of several lengths. `wanted` is the original's answer in plenty of room, and what it wrote stands in
     /// `plenty`; where a rule is given, `wanted` is that rule's answer.
     pub fn in_rooms<F, B>(
@@ -123,7 +144,8 @@ impl Bench {
             Err(refusal) => {
                 self.in_room(writer, wanted, rule, 0);
                 self.in_room(writer, wanted, rule, 40);
-                if refusal.number == 2 && writer.bytes.len() > SHORT {
+                let ample = refusal.number == 2 || rule == Some(Rule::Listing);
+                if ample && writer.bytes.len() > SHORT {
                     self.in_room(writer, wanted, rule, PLENTY);
                 }
             }

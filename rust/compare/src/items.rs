@@ -9,6 +9,8 @@ use crate::tally::Item;
 use crate::{model, names};
 use oracle::items;
 use oracle::plain::{Payload, PayloadSort, Refusal};
+use skrolvind::Severity;
+use std::array::from_fn;
 
 /// In the order in which the list counts them, from 0.
 const SORTS: [PayloadSort; 6] = [
@@ -40,8 +42,23 @@ fn masks(bench: &mut Bench, byte: u8) {
     bench.item(Item::Status, &[byte], original, &paper);
     let paper = paper.and([model::severity_valid(byte)]);
     let (bits, has, valid) = items::severity(byte);
+    agree(
+        "the binding's severity answers otherwise than the original",
+        &[byte],
+        &bound_severity(byte),
+        &(bits, has, valid),
+    );
     let original = Answer::of([bits]).and(has).and([valid]);
     bench.item(Item::Severity, &[byte], original, &paper);
+}
+
+/// What the binding says of a severity, likewise: its bits, whether each named one is set, and whether it is valid.
+fn bound_severity(byte: u8) -> (u8, [bool; 8], bool) {
+    let severity = Severity::from_bits(byte);
+    let [a, b, c, d, e] = from_fn(|class| severity.has_class(class as u8));
+    let (f, g) = (severity.maintenance_only(), severity.check_at_next_halt());
+    let has = [a, b, c, d, e, f, g, severity.check_immediately()];
+    (severity.bits(), has, severity.is_valid())
 }
 
 /// A mask with every other: the bits of either, those of both, and whether they match.

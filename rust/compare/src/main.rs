@@ -80,6 +80,7 @@ fn main() {
     step(b, "whole messages written", message::written);
     step(b, "heads of listings", listings::heads);
     step(b, "listings of up to 4 records", listings::short_listings);
+    step(b, "marks of records handed over", listings::marks);
     step(b, "indexes that are another's", listings::other_indexes);
     step(b, "long listings", listings::long_listings);
     if !arguments.quick {

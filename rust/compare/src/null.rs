@@ -8,8 +8,8 @@ use std::ptr::{null, null_mut};
 
 const ROOM: usize = 40;
 const FILLER: u8 = 0xA5;
-/// A message that can be rewritten, a name, a block length and a record.
-const PART: [u8; 4] = [2, 0, 1, b'a'];
+/// A message that can be rewritten, a name, a block length, a routine's record and one of a listing.
+const PART: [u8; 7] = [2, 0, 1, b'a', 0, 0, 0];
 
 /// Every slice of every door.
 pub fn pointers(bench: &mut Bench) {
@@ -103,14 +103,14 @@ fn readers(bench: &mut Bench) {
 
 fn listings(bench: &mut Bench) {
     let (null, no_numbers) = (null::<u8>(), null::<u32>());
-    let empty = [0x59, 0x02, 0xFF];
-    let (listing, len) = (empty.as_ptr(), empty.len());
     let code = skrolvind::TroubleCode {
         high: 0,
         middle: 0,
         low: 0,
     };
-    for sub in 1..=2 {
+    for sub in [0x01, 0x02, 0x08] {
+        let empty = [0x59, sub, 0xFF];
+        let (listing, len) = (empty.as_ptr(), empty.len());
         reader(
             bench,
             Call::ReadListing,

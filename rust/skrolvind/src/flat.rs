@@ -2,6 +2,7 @@
 //! halves. All the unsafe code of this crate is here. The functions of the crate's root are the ones to use; these are for those
 //! who want the very records.
 #![allow(missing_docs)]
+use core::mem::offset_of;
 
 /// A file transfer message that was read.
 #[repr(C)]
@@ -174,6 +175,9 @@ pub struct Listed {
     pub first: u64,
     pub second: u64,
     pub found: u64,
+    pub known: u64,
+    pub severity: u64,
+    pub unit: u64,
     pub high: u64,
     pub middle: u64,
     pub low: u64,
@@ -199,10 +203,48 @@ pub struct Found {
     pub first: u64,
     pub second: u64,
     pub place: u64,
+    pub known: u64,
+    pub severity: u64,
+    pub unit: u64,
     pub high: u64,
     pub middle: u64,
     pub low: u64,
     pub status: u64,
+}
+
+/// A record as it is handed over to be written, seven bytes. A `known` of 0 says that severity and functional unit are unknown,
+/// whatever the two are; any other, that they are known.
+#[repr(C)]
+#[derive(Clone, Copy, Debug, Default, PartialEq, Eq, Hash)]
+pub struct CodeRecord {
+    pub known: u8,
+    pub severity: u8,
+    pub unit: u8,
+    pub high: u8,
+    pub middle: u8,
+    pub low: u8,
+    pub status: u8,
+}
+
+// the very form that the library takes
+const _: () = {
+    assert!(size_of::<CodeRecord>() == 7 && align_of::<CodeRecord>() == 1);
+    assert!(offset_of!(CodeRecord, known) == 0);
+    assert!(offset_of!(CodeRecord, severity) == 1);
+    assert!(offset_of!(CodeRecord, unit) == 2);
+    assert!(offset_of!(CodeRecord, high) == 3);
+    assert!(offset_of!(CodeRecord, middle) == 4);
+    assert!(offset_of!(CodeRecord, low) == 5);
+    assert!(offset_of!(CodeRecord, status) == 6);
+};
+
+/// The bytes of records that are handed over.
+#[must_use]
+#[inline]
+pub const fn record_bytes(records: &[CodeRecord]) -> &[u8] {
+    let bytes = records.as_ptr().cast();
+    // SAFETY: a record is bytes and nothing between them, as is checked above, and all of these are lent as long as the records.
+    unsafe { core::slice::from_raw_parts(bytes, size_of_val(records)) }
 }
 
 /// The two sizes of a message to be written, in halves.
@@ -713,7 +755,7 @@ pub fn listing_lookup(
     unsafe { c::skr_listing_lookup(sub, l, l_len, n, n_len, p, p_len, high, middle, low) }
 }
 
-/// `skr_write_listing`.
+/// `skr_write_listing`; seven bytes a record, as [`record_bytes`] has them.
 #[inline]
 pub fn write_listing(sub: u8, mask: u8, records: &[u8], room: &mut [u8]) -> Written {
     let (d, d_len) = (records.as_ptr(), records.len());

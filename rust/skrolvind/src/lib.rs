@@ -23,6 +23,7 @@ mod listing;
 mod message;
 mod read;
 mod replay;
+mod severity;
 #[cfg(test)]
 mod tests;
 mod types;
@@ -34,5 +35,6 @@ pub use listing::*;
 pub use message::*;
 pub use read::*;
 pub use replay::*;
+pub use severity::*;
 pub use types::*;
 pub use write::*;

@@ -2,7 +2,9 @@
 use crate::flat;
 use crate::read::{accepted, as_small};
 use crate::write::count;
-use crate::{Refusal, TroubleCode};
+use crate::{Refusal, Severity, TroubleCode};
+
+pub use crate::flat::CodeRecord;
 
 /// Which question a listing answers, and with it a record's form.
 #[derive(Clone, Copy, Debug, PartialEq, Eq, Hash)]
@@ -10,23 +12,86 @@ use crate::{Refusal, TroubleCode};
 pub enum ListingSub {
     /// 0x02: three code bytes and a status byte.
     ByStatusMask = 0x02,
+    /// 0x08: severity, functional unit, three code bytes and a status byte.
+    BySeverityMask = 0x08,
+}
+
+impl ListingSub {
+    /// The sub-function that has this number.
+    #[must_use]
+    pub const fn from_number(number: u64) -> Option<Self> {
+        match number {
+            0x02 => Some(Self::ByStatusMask),
+            0x08 => Some(Self::BySeverityMask),
+            _ => None,
+        }
+    }
+}
+
+/// What a listing of 0x08 has before each code.
+#[derive(Clone, Copy, Debug, PartialEq, Eq, Hash)]
+pub struct Rating {
+    /// How grave the code is.
+    pub severity: Severity,
+    /// The functional unit.
+    pub unit: u8,
 }
 
 /// A record of a listing.
 #[derive(Clone, Copy, Debug, PartialEq, Eq, Hash)]
 pub struct Listed {
+    /// Severity and functional unit, which are known together or not at all: in a listing of 0x08 they are, in one of 0x02 not.
+    pub rating: Option<Rating>,
     /// The trouble code.
     pub code: TroubleCode,
     /// Its status byte.
     pub status: u8,
 }
 
-/// The four bytes in which a record is handed over.
-impl From<Listed> for [u8; 4] {
+/// What is read can be handed over. Where severity and functional unit are unknown, both bytes are 0.
+impl From<Listed> for CodeRecord {
     #[inline]
     fn from(record: Listed) -> Self {
-        let TroubleCode { high, middle, low } = record.code;
-        [high, middle, low, record.status]
+        let Listed {
+            rating,
+            code: TroubleCode { high, middle, low },
+            status,
+        } = record;
+        let (severity, unit) = rating.map_or((0, 0), |known| (known.severity.bits(), known.unit));
+        Self {
+            known: rating.is_some().into(),
+            severity,
+            unit,
+            high,
+            middle,
+            low,
+            status,
+        }
+    }
+}
+
+/// What is handed over, as it would be read: the mark decides whether severity and functional unit are known.
+impl From<CodeRecord> for Listed {
+    #[inline]
+    fn from(record: CodeRecord) -> Self {
+        let CodeRecord {
+            known,
+            severity,
+            unit,
+            high,
+            middle,
+            low,
+            status,
+        } = record;
+        let rating = Rating {
+            severity: Severity::from_bits(severity),
+            unit,
+        };
+        Self {
+            rating: (known != 0).then_some(rating),
+            code: TroubleCode { high, middle, low },
+            status,
+        }
     }
 }
 
@@ -93,7 +158,11 @@ impl<'a> Listing<'a> {
     #[inline]
     pub fn record(&self, place: usize) -> Option<Listed> {
         let r = flat::listing_record(self.sub as u8, self.message, place);
-        (r.found != 0).then(|| listed(r.high, r.middle, r.low, r.status))
+        (r.found != 0).then(|| {
+            listed([
+                r.known, r.severity, r.unit, r.high, r.middle, r.low, r.status,
+            ])
+        })
     }
 
     /// The records in their order.
@@ -118,17 +187,19 @@ impl<'a> Listing<'a> {
     }
 }
 
+/// A record from its numbers, in the order in which one is handed over.
 #[inline]
-fn listed(high: u64, middle: u64, low: u64, status: u64) -> Listed {
-    let code = TroubleCode {
-        high: as_small(high),
-        middle: as_small(middle),
-        low: as_small(low),
-    };
-    Listed {
-        code,
-        status: as_small(status),
-    }
+fn listed(numbers: [u64; 7]) -> Listed {
+    let [known, severity, unit, high, middle, low, status] = numbers.map(as_small);
+    Listed::from(CodeRecord {
+        known,
+        severity,
+        unit,
+        high,
+        middle,
+        low,
+        status,
+    })
 }
 
 /// The records of a listing, one after the other.
@@ -197,26 +268,51 @@ impl<'a> Index<'a> {
         let Listing { sub, message, .. } = self.listing;
         let r = flat::listing_lookup(sub as u8, message, &self.counts, &self.firsts, code);
         match accepted(r.number, r.first, r.second) {
-            Ok(()) => Ok(Some((
-                as_small(r.place),
-                listed(r.high, r.middle, r.low, r.status),
-            ))),
+            Ok(()) => {
+                let record = listed([
+                    r.known, r.severity, r.unit, r.high, r.middle, r.low, r.status,
+                ]);
+                Ok(Some((as_small(r.place), record)))
+            }
             Err(Refusal { number: 16, .. }) => Ok(None),
             Err(refusal) => Err(refusal),
         }
     }
 }
 
-/// Writes a listing from records of four bytes each: three code bytes and a status byte (`<[u8; 4]>::from` of a [`Listed`]).
+/// Writes a listing from records that are handed over (`CodeRecord::from` of a [`Listed`]).
 ///
 /// # Errors
-/// Refusals 12, 10 and 7.
+/// Refusal 12 for more than 4,096 records; 11 with the place of the first record whose severity is known where a listing of 0x02 is
+/// to be written, or unknown where one of 0x08 is; and last 7.
+///
+/// ```
+/// use skrolvind::{CodeRecord, Listing, ListingSub, Refusal, write_listing};
+///
+/// let message = [0x59, 0x08, 0xFF, 0x81, 0x05, 0x03, 0x01, 0x11, 0x2F, 0x20, 0x05, 0xC1, 0x00, 0x00, 0x08];
+/// let listing = Listing::read(ListingSub::BySeverityMask, &message)?;
+/// let rating = listing.record(1).and_then(|record| record.rating).expect("0x08 has it");
+/// assert!(rating.severity.maintenance_only() && !rating.severity.is_valid());
+/// let mut records = [CodeRecord::default(); 2];
+/// for (handed, read) in records.iter_mut().zip(listing.records()) {
+///     *handed = read.into();
+/// }
+/// let mut room = [0; 15];
+/// assert_eq!(write_listing(ListingSub::BySeverityMask, 0xFF, &records, &mut room)?, 15);
+/// assert_eq!(room, message);
+/// // the second record loses its severity
+/// records[1].known = 0;
+/// let refused = write_listing(ListingSub::BySeverityMask, 0xFF, &records, &mut room);
+/// assert_eq!(refused, Err(Refusal { number: 11, first: 1, second: 0 }));
+/// # Ok::<(), Refusal>(())
+/// ```
 #[inline]
 pub fn write_listing(
     sub: ListingSub,
     mask: u8,
-    records: &[u8],
+    records: &[CodeRecord],
     room: &mut [u8],
 ) -> Result<usize, Refusal> {
+    let records = flat::record_bytes(records);
     count(flat::write_listing(sub as u8, mask, records, room))
 }

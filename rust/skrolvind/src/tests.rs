@@ -435,30 +435,44 @@ fn a_refusal_and_a_reason_print_their_meaning() {
 const LISTING: [u8; 15] = [
     0x59, 0x02, 0x7F, 0x03, 0x01, 0x11, 0x2F, 0xC1, 0x00, 0x00, 0x08, 0x03, 0x01, 0x11, 0x09,
 ];
+/// The same codes and statuses with severities and functional units.
+const RATED: [u8; 21] = [
+    0x59, 0x08, 0x7F, 0x81, 0x05, 0x03, 0x01, 0x11, 0x2F, 0x00, 0x00, 0xC1, 0x00, 0x00, 0x08, 0x20,
+    0x03, 0x03, 0x01, 0x11, 0x09,
+];
+const SUBS: [(ListingSub, &[u8]); 2] = [
+    (ListingSub::ByStatusMask, &LISTING),
+    (ListingSub::BySeverityMask, &RATED),
+];
 
 const fn code(high: u8, middle: u8, low: u8) -> TroubleCode {
     TroubleCode { high, middle, low }
 }
 
+fn handed(sub: ListingSub, message: &[u8]) -> Vec<CodeRecord> {
+    let listing = Listing::read(sub, message).unwrap();
+    listing.records().map(CodeRecord::from).collect()
+}
+
 #[test]
 fn listings_are_read_and_written_back() {
-    let listing = Listing::read(ListingSub::ByStatusMask, &LISTING).unwrap();
-    assert_eq!((listing.mask(), listing.len()), (0x7F, 3));
-    assert_eq!(listing.records().len(), 3);
-    assert_eq!(listing.record(3), None);
-    let records: Vec<_> = listing.records().flat_map(<[u8; 4]>::from).collect();
-    assert_eq!(records, LISTING[3..]);
-    let mut room = [0xAA; 16];
-    let sub = ListingSub::ByStatusMask;
-    assert_eq!(
-        write_listing(sub, listing.mask(), &records, &mut room),
-        Ok(15)
-    );
-    assert_eq!((&room[..15], room[15]), (&LISTING[..], 0xAA));
-    let short = write_listing(sub, 0, &records, &mut room[..14]);
-    assert_eq!(short, Err(refusal(7, 15, 14)));
-    let cut = write_listing(sub, 0, &records[1..], &mut room);
-    assert_eq!(cut, Err(refusal(10, 0, 0)));
+    for (sub, message) in SUBS {
+        let listing = Listing::read(sub, message).unwrap();
+        assert_eq!((listing.mask(), listing.len()), (0x7F, 3));
+        assert_eq!(listing.records().len(), 3);
+        assert_eq!(listing.record(3), None);
+        let (records, len) = (handed(sub, message), message.len());
+        let mut room = [0xAA; 22];
+        let written = write_listing(sub, listing.mask(), &records, &mut room);
+        assert_eq!(written, Ok(len));
+        assert_eq!((&room[..len], room[len]), (message, 0xAA));
+        let short = write_listing(sub, 0, &records, &mut room[..len - 1]);
+        let needed = len as u64;
+        assert_eq!(short, Err(refusal(7, needed, needed - 1)));
+        let bytes = flat::record_bytes(&records);
+        let cut = flat::write_listing(sub as u8, 0, &bytes[1..], &mut room);
+        assert_eq!((bytes.len(), cut.number), (21, 10));
+    }
 }
 
 #[test]
@@ -473,32 +487,103 @@ fn listings_are_refused() {
         let read = Listing::read(ListingSub::ByStatusMask, message);
         assert_eq!(read, Err(wanted));
     }
-    let mut long = vec![0; 3 + 4 * 4097];
-    long[..3].copy_from_slice(&LISTING[..3]);
-    let read = |len: usize| Listing::read(ListingSub::ByStatusMask, &long[..len]).map(|l| l.len());
-    assert_eq!(read(16_387), Ok(4096));
-    assert_eq!(read(16_390), Err(refusal(10, 0, 0)));
-    assert_eq!(read(16_391), Err(refusal(12, 0, 0)));
+    for ((sub, message), size) in SUBS.into_iter().zip([4, 6]) {
+        let mut long = vec![0; 3 + size * 4097];
+        long[..3].copy_from_slice(&message[..3]);
+        let read = |len: usize| Listing::read(sub, &long[..len]).map(|l| l.len());
+        let most = 3 + size * 4096;
+        assert_eq!(read(most), Ok(4096));
+        assert_eq!(read(most + size - 1), Err(refusal(10, 0, 0)));
+        assert_eq!(read(most + size), Err(refusal(12, 0, 0)));
+    }
+}
+
+#[test]
+fn severities_are_known_or_not() {
+    let known = |severity, unit| {
+        Some(Rating {
+            severity: Severity::from_bits(severity),
+            unit,
+        })
+    };
+    let ratings = |sub, message| {
+        let listing = Listing::read(sub, message).unwrap();
+        listing.records().map(|r| r.rating).collect::<Vec<_>>()
+    };
+    let [(plain, unrated), (by_severity, rated)] = SUBS;
+    assert_eq!(ratings(plain, unrated), [None; 3]);
+    let wanted = [known(0x81, 0x05), known(0, 0), known(0x20, 0x03)];
+    assert_eq!(ratings(by_severity, rated), wanted);
+    for (sub, message) in SUBS {
+        let listing = Listing::read(sub, message).unwrap();
+        for record in listing.records() {
+            assert_eq!(Listed::from(CodeRecord::from(record)), record);
+        }
+    }
+    // any other mark than 0 is as good as 1, and beside a mark of 0 nothing else is looked at
+    let mut records = handed(by_severity, rated);
+    records[1].known = 0xFF;
+    let mut room = [0; 22];
+    let written = write_listing(by_severity, 0x7F, &records, &mut room);
+    assert_eq!((written, &room[..21]), (Ok(21), rated));
+    records.iter_mut().for_each(|record| record.known = 0);
+    let written = write_listing(plain, 0x7F, &records, &mut room);
+    assert_eq!((written, &room[..15]), (Ok(15), unrated));
+}
+
+#[test]
+fn marks_that_do_not_fit() {
+    for ((sub, message), unfit) in SUBS.into_iter().zip([1, 0]) {
+        for place in 0..3 {
+            let mut records = handed(sub, message);
+            records[place].known = unfit;
+            records[2].known = unfit;
+            let mut room = [0xAA; 21];
+            for room in [&mut [][..], &mut room] {
+                let written = write_listing(sub, 0, &records, room);
+                assert_eq!(written, Err(refusal(11, place as u64, 0)));
+            }
+            assert_eq!(room, [0xAA; 21]);
+            records.resize(4097, records[0]);
+            let many = write_listing(sub, 0, &records, &mut room);
+            assert_eq!(many, Err(refusal(12, 0, 0)));
+        }
+    }
+}
+
+#[test]
+fn questions_to_a_severity() {
+    for bits in 0..=255 {
+        let severity = Severity::from_bits(bits);
+        assert_eq!(severity.bits(), bits);
+        let classes: Vec<_> = (0..=255).filter(|c| severity.has_class(*c)).collect();
+        let set: Vec<_> = (0..5).filter(|bit| bits >> bit & 1 == 1).collect();
+        assert_eq!((severity.is_valid(), classes), (!set.is_empty(), set));
+        let todo = [
+            severity.maintenance_only(),
+            severity.check_at_next_halt(),
+            severity.check_immediately(),
+        ];
+        assert_eq!(todo, [5, 6, 7].map(|bit| bits >> bit & 1 == 1));
+    }
 }
 
 #[test]
 fn codes_are_looked_up_by_the_own_index_alone() {
-    let listing = Listing::read(ListingSub::ByStatusMask, &LISTING).unwrap();
-    let index = listing.index();
-    let place = |code| {
-        index
-            .get(code)
-            .map(|found| found.map(|(place, record)| (place, record.status)))
-    };
-    assert_eq!(place(code(3, 1, 0x11)), Ok(Some((0, 0x2F))));
-    assert_eq!(place(code(0xC1, 0, 0)), Ok(Some((1, 0x08))));
-    assert_eq!(place(code(3, 1, 0x12)), Ok(None));
-    assert_eq!(place(code(4, 1, 0x11)), Ok(None));
-    let mut firsts = *index.firsts();
-    firsts[0x10] = 1;
-    let other = Index::kept(listing, *index.counts(), firsts);
-    for code in [code(3, 1, 0x11), code(3, 1, 0x12)] {
-        assert_eq!(other.get(code), Err(refusal(11, 0, 0)));
+    for (sub, message) in SUBS {
+        let listing = Listing::read(sub, message).unwrap();
+        let index = listing.index();
+        let found = |place: usize| Ok(listing.record(place).map(|record| (place, record)));
+        assert_eq!(index.get(code(3, 1, 0x11)), found(0));
+        assert_eq!(index.get(code(0xC1, 0, 0)), found(1));
+        assert_eq!(index.get(code(3, 1, 0x12)), Ok(None));
+        assert_eq!(index.get(code(4, 1, 0x11)), Ok(None));
+        let mut firsts = *index.firsts();
+        firsts[0x10] = 1;
+        let other = Index::kept(listing, *index.counts(), firsts);
+        for code in [code(3, 1, 0x11), code(3, 1, 0x12)] {
+            assert_eq!(other.get(code), Err(refusal(11, 0, 0)));
+        }
     }
 }
 

@@ -27,7 +27,7 @@ impl Refusal {
             8 => "the sizes differ though the file is not packed",
             9 => "bytes are left over",
             10 => "the last record is cut, or lengths do not add up",
-            11 => "a field is out of its range, or the index is another listing's",
+            11 => "a field is out of range or does not fit, or the index is another listing's",
             12 => "there are more records or messages than are taken",
             13 => "this step is not allowed here",
             14 => "a block has the wrong counter",

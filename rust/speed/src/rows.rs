@@ -9,7 +9,7 @@ use oracle::itself::{
     Decode, DecodeIter, DtcRecord, Encode, Error, NamePayload, RequestFileTransferRequest,
     RequestFileTransferResponse, RoutineControlRequest, RoutineControlResponse,
 };
-use skrolvind::{Listing, ListingSub, Request, Response, TroubleCode, next_trouble_code};
+use skrolvind::{Listed, Listing, ListingSub, Request, Response, TroubleCode, next_trouble_code};
 use std::hint::black_box;
 
 const NAME_LENGTHS: [usize; 3] = [20, 200, 65_535];
@@ -241,7 +241,10 @@ fn read_listing(message: &'static [u8]) -> Option<Listing<'static>> {
 /// All bytes of the records added up.
 fn listed_bytes(message: &'static [u8]) -> Option<u32> {
     let records = read_listing(message)?.records();
-    let bytes = records.flat_map(<[u8; 4]>::from);
+    let bytes = records.flat_map(|Listed { code, status, .. }| {
+        let TroubleCode { high, middle, low } = code;
+        [high, middle, low, status]
+    });
     Some(bytes.map(u32::from).sum())
 }
 
