@@ -81,6 +81,14 @@ unknownService place = refusal 15 place 0
 abbrev pub noSuchCode : Refusal
 noSuchCode = refusal 16 0 0
 
+-- the record at this place of a listing has a code that stood before it
+abbrev pub repeated : ℕ → Refusal
+repeated place = refusal 17 place 0
+
+-- the character at this place of a text can't stand there; the end of the text counts as its length
+abbrev pub badCharacter : ℕ → Refusal
+badCharacter place = refusal 18 place 0
+
 -- ---- answers
 -- what a call answers: 0 with a value, or a refusal. A refusal hands out no field and no tail.
 pub data Answer (A : Type 0) : Type 0 where

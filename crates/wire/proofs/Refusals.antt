@@ -6,7 +6,7 @@ use lib.ListN.{getD}
 use Rattle.paper.specs.Answer as paper
 use Rattle.wire.specs.Refusals.{row}
 use Rattle.wire.specs.declared.refusal.Refusal.{Refusal}
-use Rattle.wire.specs.declared.refusal.Refusal.the-variants.{TooShort, WrongFormat, UnknownMode, UnknownSubFunction, NoTroubleCode, BadWidth, NoRoom, UnequalSizes, LeftOver, Cut, OutOfRange, TooMany, NotAllowed, WrongCounter, UnknownService, NoSuchCode}
+use Rattle.wire.specs.declared.refusal.Refusal.the-variants.{TooShort, WrongFormat, UnknownMode, UnknownSubFunction, NoTroubleCode, BadWidth, NoRoom, UnequalSizes, LeftOver, Cut, OutOfRange, TooMany, NotAllowed, WrongCounter, UnknownService, NoSuchCode, Repeated, BadCharacter}
 
 -- the refusal that a row of the table stands for: the place in the list is the number
 abbrev pub refusalBack : paper.Refusal → Refusal
@@ -14,7 +14,7 @@ refusalBack e =
     let a = e .first in
     let b = e .second in
     getD
-    (WrongFormat 0 ∷ TooShort a b ∷ WrongFormat a ∷ UnknownMode a ∷ UnknownSubFunction a ∷ NoTroubleCode a ∷ BadWidth a ∷ NoRoom a b ∷ UnequalSizes ∷ LeftOver a ∷ Cut ∷ OutOfRange a ∷ TooMany ∷ NotAllowed a ∷ WrongCounter a ∷ UnknownService a ∷ NoSuchCode ∷ [])
+    (WrongFormat 0 ∷ TooShort a b ∷ WrongFormat a ∷ UnknownMode a ∷ UnknownSubFunction a ∷ NoTroubleCode a ∷ BadWidth a ∷ NoRoom a b ∷ UnequalSizes ∷ LeftOver a ∷ Cut ∷ OutOfRange a ∷ TooMany ∷ NotAllowed a ∷ WrongCounter a ∷ UnknownService a ∷ NoSuchCode ∷ Repeated a ∷ BadCharacter a ∷ [])
     (e .number)
     (WrongFormat 0)
 
@@ -35,6 +35,8 @@ refusal-back (NotAllowed a) = refl
 refusal-back (WrongCounter a) = refl
 refusal-back (UnknownService a) = refl
 refusal-back NoSuchCode = refl
+refusal-back (Repeated a) = refl
+refusal-back (BadCharacter a) = refl
 
 pub refusal-once : {e f : Refusal} → row e ≡ row f → e ≡ f
 refusal-once {e} {f} h = sym (refusal-back e) ∙ ap refusalBack h ∙ refusal-back f

@@ -1,8 +1,8 @@
 -- The number of each refusal in the paper's table, and what it carries.
 use Rattle.paper.specs.Answer as paper
-use Rattle.paper.specs.Answer.{tooShort, wrongFormat, unknownMode, unknownSubFunction, noTroubleCode, badWidth, noRoom, unequalSizes, leftOver, cut, outOfRange, tooMany, notAllowed, wrongCounter, unknownService, noSuchCode}
+use Rattle.paper.specs.Answer.{tooShort, wrongFormat, unknownMode, unknownSubFunction, noTroubleCode, badWidth, noRoom, unequalSizes, leftOver, cut, outOfRange, tooMany, notAllowed, wrongCounter, unknownService, noSuchCode, repeated, badCharacter}
 use Rattle.wire.specs.declared.refusal.Refusal.{Refusal}
-use Rattle.wire.specs.declared.refusal.Refusal.the-variants.{TooShort, WrongFormat, UnknownMode, UnknownSubFunction, NoTroubleCode, BadWidth, NoRoom, UnequalSizes, LeftOver, Cut, OutOfRange, TooMany, NotAllowed, WrongCounter, UnknownService, NoSuchCode}
+use Rattle.wire.specs.declared.refusal.Refusal.the-variants.{TooShort, WrongFormat, UnknownMode, UnknownSubFunction, NoTroubleCode, BadWidth, NoRoom, UnequalSizes, LeftOver, Cut, OutOfRange, TooMany, NotAllowed, WrongCounter, UnknownService, NoSuchCode, Repeated, BadCharacter}
 
 abbrev pub row : Refusal → paper.Refusal
 row (TooShort needed available) = tooShort needed available
@@ -21,3 +21,5 @@ row (NotAllowed place) = notAllowed place
 row (WrongCounter place) = wrongCounter place
 row (UnknownService place) = unknownService place
 row NoSuchCode = noSuchCode
+row (Repeated place) = repeated place
+row (BadCharacter place) = badCharacter place

@@ -36,6 +36,10 @@ pub enum Refusal {
     UnknownService { place: usize },
     // 16: no record of the listing has the code.
     NoSuchCode,
+    // 17: the record at this place of a listing has a code that stood before it.
+    Repeated { place: usize },
+    // 18: the character at this place of a text can't stand there; the end of the text counts as its length.
+    BadCharacter { place: usize },
 }
 
 impl Refusal {
@@ -63,6 +67,8 @@ impl Refusal {
             Refusal::WrongCounter { place: _ } => 14,
             Refusal::UnknownService { place: _ } => 15,
             Refusal::NoSuchCode => 16,
+            Refusal::Repeated { place: _ } => 17,
+            Refusal::BadCharacter { place: _ } => 18,
         }
     }
 
@@ -90,6 +96,8 @@ impl Refusal {
             Refusal::WrongCounter { place } => place,
             Refusal::UnknownService { place } => place,
             Refusal::NoSuchCode => 0,
+            Refusal::Repeated { place } => place,
+            Refusal::BadCharacter { place } => place,
         }
     }
 
@@ -117,6 +125,8 @@ impl Refusal {
             Refusal::WrongCounter { place: _ } => 0,
             Refusal::UnknownService { place: _ } => 0,
             Refusal::NoSuchCode => 0,
+            Refusal::Repeated { place: _ } => 0,
+            Refusal::BadCharacter { place: _ } => 0,
         }
     }
 }
