@@ -38,3 +38,10 @@ pub mod Listing
 pub mod ListingIndex
 pub mod FirstPlace
 pub mod ListingVectors
+pub mod Spelling
+pub mod TextPlaces
+pub mod CodeText
+pub mod CodeTextVectors
+pub mod LineText
+pub mod ListingText
+pub mod ListingPrograms

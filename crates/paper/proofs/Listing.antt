@@ -70,7 +70,7 @@ module _ (size : ℕ) (of : List ℕ → Listed) where
   behind-first : {A : Type 0} (g : List ℕ → A) (k : ℕ) (s : List ℕ) → g (drop (size * k) (drop size s)) ≡ g (drop (size * suc k) s)
   behind-first g k s = ap g (drop-drop (size * k) size s ∙ ap (λ (j : ℕ). drop j s) (further size k))
 
-  length-each : (n : ℕ) (s : List ℕ) → length (oneByOne size of n s) ≡ n
+  pub length-each : (n : ℕ) (s : List ℕ) → length (oneByOne size of n s) ≡ n
   unfolding oneByOne
   length-each zero s = refl
   length-each (suc n) s = ap suc (length-each n (drop size s))

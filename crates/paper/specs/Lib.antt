@@ -29,3 +29,5 @@ pub mod Joined
 pub mod WholeMessage
 pub mod MessageProgram
 pub mod Listing
+pub mod CodeText
+pub mod ListingProgram
