@@ -1,0 +1,9 @@
+pub mod Rows
+pub mod LineRows
+pub mod Turns
+pub mod Texts
+pub mod Standing
+pub mod Exported
+pub mod Imported
+pub mod Unique
+pub mod Calls
