@@ -7,6 +7,7 @@ use mathlib.Core.Option.{Option}
 use Rattle.paper.specs.Answer.{Refusal, Answer, accepted, refused, unknownService}
 use Rattle.paper.specs.TroubleCode.{TroubleCode}
 use Rattle.paper.specs.Listing.{SubFunction, Listing, Listed, readListing, Head, headOf, recordAt, Index, indexIn, lookUpIn, lookUp, writeHanded}
+use Rattle.paper.specs.CodeText.{exportIn, exportListing}
 use Rattle.paper.proofs.Choice.{never}
 use Rattle.wire.specs.Refusals.{row}
 use Rattle.listing.specs.Listing.{headSaid}
@@ -26,6 +27,14 @@ module _ (b : ℕ) (s : List ℕ) where
   pub unknown : {e : Refusal} → refused e ≡ listingSub b → listingHanded b s ≡ refused e
   unfolding listingHanded
   unknown e = ap (readKnown s) (sym e)
+
+  -- an export
+  pub exported-known : {f : SubFunction} → accepted f ≡ listingSub b → exportIn (listingHanded b s) ≡ exportListing f s
+  unfolding exportListing
+  exported-known e = ap exportIn (known e)
+
+  pub exported-unknown : {e : Refusal} → refused e ≡ listingSub b → exportIn (listingHanded b s) ≡ refused e
+  exported-unknown e = ap exportIn (unknown e)
 
 -- a lookup is one in what was read
 pub looked : (f : SubFunction) (s : List ℕ) (x : Index) (c : TroubleCode) → lookUp f s x c ≡ lookUpIn x c (readListing f s)

@@ -19,6 +19,17 @@ use Rattle.workshop.proofs.listings.skr_listing_lookup.Reads as listing
 use Rattle.workshop.proofs.listings.skr_write_listing as write-listing
 use Rattle.workshop.proofs.listings.skr_write_listing.Kinds as write-listing-kinds
 use Rattle.workshop.proofs.listings.skr_write_listing.Reads as write-listing-reads
+use Rattle.workshop.proofs.texts.skr_code_text as code-text
+use Rattle.workshop.proofs.texts.skr_code_text.Kinds as code-text-kinds
+use Rattle.workshop.proofs.texts.skr_code_text.Reads as code-text-reads
+use Rattle.workshop.proofs.texts.skr_read_code_text.Kinds as read-code-text-kinds
+use Rattle.workshop.proofs.texts.skr_read_code_text.Reads as read-code-text-reads
+use Rattle.workshop.proofs.texts.skr_export_listing as export-listing
+use Rattle.workshop.proofs.texts.skr_export_listing.Kinds as export-listing-kinds
+use Rattle.workshop.proofs.texts.skr_export_listing.Reads as export-listing-reads
+use Rattle.workshop.proofs.texts.skr_import_listing as import-listing
+use Rattle.workshop.proofs.texts.skr_import_listing.Kinds as import-listing-kinds
+use Rattle.workshop.proofs.texts.skr_import_listing.Reads as import-listing-reads
 
 -- ---- readers and questions
 pub read-listing-determined : Determined 1 read-listing-kinds.ps read-listing-kinds.r read-listing-reads.Post
@@ -33,7 +44,22 @@ listing-index-determined κs a x y r₁ r₂ p q = p ∙ sym q
 pub listing-lookup-determined : Determined 3 listing-lookup-kinds.ps listing-lookup-kinds.r listing-lookup-reads.Post
 listing-lookup-determined κs a x y r₁ r₂ p q = p ∙ sym q
 
--- ---- the writer: the record, and what the room, the last parameter, holds at the exit
+pub read-code-text-determined : Determined 1 read-code-text-kinds.ps read-code-text-kinds.r read-code-text-reads.Post
+read-code-text-determined κs a x y r₁ r₂ p q = p ∙ sym q
+
+-- ---- the writers: the record, and what the room, the last parameter, holds at the exit
 pub write-listing-determined : (κs : Lfts 2) (a : ArgsD write-listing.signature κs) (x y : AtExit (endedOf 2 write-listing-kinds.ps write-listing-kinds.r) κs) (r s : WrittenRecord)
     → write-listing-reads.Post κs a r x → write-listing-reads.Post κs a s y → (r ≡ s) × (now (x .1 .1 .1 .0) ≡ now (y .1 .1 .1 .0))
 write-listing-determined κs a x y r s p q = (p .0 ∙ sym (q .0), p .1 ∙ sym (q .1))
+
+pub code-text-determined : (κs : Lfts 1) (a : ArgsD code-text.signature κs) (x y : AtExit (endedOf 1 code-text-kinds.ps code-text-kinds.r) κs) (r s : WrittenRecord)
+    → code-text-reads.Post κs a r x → code-text-reads.Post κs a s y → (r ≡ s) × (now (x .1 .1 .1 .0) ≡ now (y .1 .1 .1 .0))
+code-text-determined κs a x y r s p q = (p .0 ∙ sym (q .0), p .1 ∙ sym (q .1))
+
+pub export-listing-determined : (κs : Lfts 2) (a : ArgsD export-listing.signature κs) (x y : AtExit (endedOf 2 export-listing-kinds.ps export-listing-kinds.r) κs) (r s : WrittenRecord)
+    → export-listing-reads.Post κs a r x → export-listing-reads.Post κs a s y → (r ≡ s) × (now (x .1 .1 .0) ≡ now (y .1 .1 .0))
+export-listing-determined κs a x y r s p q = (p .0 ∙ sym (q .0), p .1 ∙ sym (q .1))
+
+pub import-listing-determined : (κs : Lfts 2) (a : ArgsD import-listing.signature κs) (x y : AtExit (endedOf 2 import-listing-kinds.ps import-listing-kinds.r) κs) (r s : WrittenRecord)
+    → import-listing-reads.Post κs a r x → import-listing-reads.Post κs a s y → (r ≡ s) × (now (x .1 .1 .0) ≡ now (y .1 .1 .0))
+import-listing-determined κs a x y r s p q = (p .0 ∙ sym (q .0), p .1 ∙ sym (q .1))

@@ -1,2 +1,3 @@
-// The doors for C and for Rust to trouble-code listings, over flat records, with no logic of its own: each answers on every input.
+// The doors for C and for Rust to trouble-code listings and to codes as text, over flat records, with no logic of its own: each answers on every input.
 pub mod listings;
+pub mod texts;

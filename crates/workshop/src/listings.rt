@@ -80,12 +80,12 @@ pub struct LookUpRecord {
 }
 
 // The sub-function that a byte stands for.
-enum KnownSub {
+pub(crate) enum KnownSub {
     Known(SubFunction),
     Unknown,
 }
 
-fn known_sub(sub: u8) -> KnownSub
+pub(crate) fn known_sub(sub: u8) -> KnownSub
     ensures { λ r. ⌜ subSaid r ≡ listingSub «sub» ⌝ }
 {
     if sub == 0x02 {
