@@ -296,6 +296,24 @@ skr_found skr_listing_lookup(uint8_t sub, const uint8_t *listing, size_t listing
 skr_written skr_write_listing(uint8_t sub, uint8_t mask, const uint8_t *records, size_t records_len,
                               uint8_t *room, size_t room_len);
 
+/* Writes a code as the workshop does, eight characters at the start of the room: P, C, B or U from the top two bits, a digit 0 to 3
+ * from the next two, a hex digit from the low four, two from the middle byte, a dash, two from the low byte; capitals, and no zero
+ * byte behind them. 03 01 11 is P0301-11. Refusal 7. */
+skr_written skr_code_text(uint8_t high, uint8_t middle, uint8_t low, uint8_t *room, size_t room_len);
+
+/* Reads a code that has exactly this form. Refusal 18 with the place, from 0, of the first character that cannot stand there;
+ * the end of the text counts as its length, and a ninth character cannot stand anywhere. */
+skr_trouble_code skr_read_code_text(const uint8_t *text, size_t text_len);
+
+/* Exports a listing as text at the start of the room: for each record a line of twelve bytes, the code, a space, the status as
+ * two hex digits and a line feed. Severity and functional unit are not carried. Refusals as for reading, then 7. */
+skr_written skr_export_listing(uint8_t sub, const uint8_t *listing, size_t listing_len, uint8_t *room, size_t room_len);
+
+/* Imports such a text as a listing of 0x02 with this availability mask, its lines in their order; none is good. Refusals: 18
+ * with the place, in the whole text, of the first character that cannot stand there, line feeds counted, and the end of the text
+ * where it ends within a line; 12 for more than 4,096 lines; 7. */
+skr_written skr_import_listing(uint8_t mask, const uint8_t *text, size_t text_len, uint8_t *room, size_t room_len);
+
 #ifdef __cplusplus
 }
 #endif

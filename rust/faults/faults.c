@@ -1,4 +1,4 @@
-/* One fault at a time in front of the library, to see that the comparison finds it: SKROLVIND_FAULT is its number, 1 to 105; with 0 there is none.
+/* One fault at a time in front of the library, to see that the comparison finds it: SKROLVIND_FAULT is its number, 1 to 125; with 0 there is none.
  * Each function calls the library's own, which `try` has given the prefix real_, and spoils the answer. `try` counts the lines that have FAULT ==. */
 #include <stdlib.h>
 #include <string.h>
@@ -290,4 +290,57 @@ DOOR(skr_written, skr_write_listing, (uint8_t s, uint8_t k, const uint8_t *d, si
      if (FAULT == 103 && s == 0x08 && !w.number) for (size_t i = 0; i < dn / 7; i++) if (d[7 * i] > 1) { w.number = 11; w.first = i; w.written = 0; } /* a mark above 1 is none */
      if (FAULT == 104 && s == 0x02 && w.number == 11 && !d[7 * at + 1] && !d[7 * at + 2]) { w.number = 0; w.first = 0; } /* a known severity of 0 is taken for an unknown one */
      if (FAULT == 105 && w.number == 11 && rn >= needed) r[0] = 0x59;       /* the first byte is written before marks are judged */
+     return w;)
+
+/* A text as it would be with some characters of it left out or changed, for faults that take more than they should. */
+static uint8_t other[70000];
+
+/* The text with small letters made large. */
+static size_t capitals(const uint8_t *t, size_t n) {
+    for (size_t i = 0; i < n; i++) other[i] = t[i] >= 'a' && t[i] <= 'z' ? t[i] - 32 : t[i];
+    return n;
+}
+
+/* The text without carriage returns, or without line feeds that follow no line. */
+static size_t without(uint8_t character, const uint8_t *t, size_t n) {
+    size_t kept = 0;
+    for (size_t i = 0; i < n; i++) if (t[i] != character || (character == '\n' && i && t[i - 1] != '\n')) other[kept++] = t[i];
+    return kept;
+}
+
+DOOR(skr_written, skr_code_text, (uint8_t h, uint8_t d, uint8_t l, uint8_t *r, size_t rn),
+     if (FAULT == 106 && (h >> 6) % 3) h ^= 0xC0;                           /* the letters stand in the order P, B, C, U */
+     skr_written w = real_skr_code_text(h, d, l, r, rn);
+     if (FAULT == 107 && !w.number) for (int i = 2; i < 8; i++) if (r[i] > '9') r[i] += 32; /* hex digits are small */
+     if (FAULT == 108 && !w.number && rn > 8) r[8] = 0;                     /* a zero byte ends the text */
+     return w;)
+
+DOOR(skr_trouble_code, skr_read_code_text, (const uint8_t *t, size_t n),
+     skr_trouble_code r = real_skr_read_code_text(t, n);
+     if (FAULT == 109 && r.number && n == 8) r = real_skr_read_code_text(other, capitals(t, n)); /* small letters are taken */
+     if (FAULT == 110 && r.number && r.first == 8) r = real_skr_read_code_text(t, 8); /* what follows eight characters is passed over */
+     if (FAULT == 111 && r.number && r.first == n && n) r.first -= 1;       /* a text that ends early is told at its last character */
+     if (FAULT == 112 && r.number && n < 8) r.first = n;                    /* a text that is too short is told at its end, whatever stands in it */
+     return r;)
+
+DOOR(skr_written, skr_export_listing, (uint8_t s, const uint8_t *m, size_t n, uint8_t *r, size_t rn),
+     skr_written w = real_skr_export_listing(s, m, n, r, rn);
+     if (FAULT == 113 && w.written) w.written -= 1;                         /* the last line has no line feed */
+     if (FAULT == 114 && w.written > 12 && !memcmp(m + CODE(s, 0), m + CODE(s, 1), 3)) w.written -= 12; /* a code that stands twice has one line */
+     if (FAULT == 115 && w.number == 10 && rn < 12 * RECORDS(s, n)) { w.number = 7; w.first = 12 * RECORDS(s, n); w.second = rn; } /* 7 before 10 */
+     if (FAULT == 116 && s == 0x08 && !w.number) for (size_t i = 0; i < w.written / 12; i++) r[12 * i + 10] = "0123456789ABCDEF"[m[3 + 6 * i] % 16]; /* a half of the severity in place of the status */
+     return w;)
+
+DOOR(skr_written, skr_import_listing, (uint8_t k, const uint8_t *t, size_t n, uint8_t *r, size_t rn),
+     skr_written w = real_skr_import_listing(k, t, n, r, rn);
+     uint64_t place = w.first;
+     if (FAULT == 117 && w.number == 18) w = real_skr_import_listing(k, other, without('\r', t, n), r, rn); /* carriage returns are passed over */
+     if (FAULT == 118 && w.number == 18) w = real_skr_import_listing(k, other, without('\n', t, n), r, rn); /* empty lines are passed over */
+     if (FAULT == 119 && w.number == 18) w = real_skr_import_listing(k, other, capitals(t, n), r, rn); /* small letters are taken */
+     if (FAULT == 120 && w.number == 18 && place == n && n % 12 == 11) w = real_skr_import_listing(k, t, n - 11, r, rn); /* a last line without its end is left out */
+     if (FAULT == 121 && w.number == 18 && n / 12 > 4096) { w.number = 12; w.first = 0; } /* 12 before 18 */
+     if (FAULT == 122 && w.number == 12 && rn < 3 + n / 3) { w.number = 7; w.first = 3 + n / 3; w.second = rn; } /* 7 before 12 */
+     if (FAULT == 123 && w.number == 18) w.first %= 12;                     /* a place is counted in its line */
+     if (FAULT == 124 && w.number == 18 && place >= 12 && rn > 6) r[0] = 0x59; /* a line is written before the next one is judged */
+     if (FAULT == 125 && !w.number && w.written > 3) r[2] = 0xFF;           /* the availability mask is not the importer's */
      return w;)

@@ -12,8 +12,8 @@ use std::hint::black_box;
 const PLENTY: usize = 66_000;
 /// Bytes before the room and as many behind it, which nobody may touch.
 const AROUND: usize = 16;
-/// What is refused though its room is ample, an over-long part, a fault in a long name or a record of a listing, is tried in plenty
-/// of room too.
+/// What is refused though its room is ample, an over-long part, a fault in a long name, a record of a listing or a line, is tried in
+/// plenty of room too.
 const SHORT: usize = 255;
 
 pub struct Bench {
@@ -40,7 +40,7 @@ pub struct Writer<'a, F, B> {
 impl Bench {
     pub fn new(recorder: Option<Recorder>) -> Self {
         Self {
-            tally: Tally::default(),
+            tally: Tally::new(),
             recorder,
             plenty: vec![0; PLENTY],
             lent: vec![0; 2 * PLENTY],
@@ -144,13 +144,15 @@ impl Bench {
             Err(refusal) => {
                 self.in_room(writer, wanted, rule, 0);
                 self.in_room(writer, wanted, rule, 40);
-                let ample = refusal.number == 2 || rule == Some(Rule::Listing);
+                let ample = refusal.number == 2 || matches!(rule, Some(Rule::Listing | Rule::Text));
                 if ample && writer.bytes.len() > SHORT {
                     self.in_room(writer, wanted, rule, PLENTY);
                 }
             }
             Ok(needed) => {
-                for room in [0, needed / 2, needed - 1] {
+                // none is too short for an empty text
+                let rooms = [0, needed / 2, needed.saturating_sub(1)];
+                for room in rooms.into_iter().filter(|room| *room < needed) {
                     let short = Refusal::new(7, needed as u64, room as u64);
                     self.in_room(writer, Err(short), Some(Rule::Room), room);
                 }

@@ -10,7 +10,7 @@ use skrolvind::flat::{self, Found, Head, Listed};
 use skrolvind::{CodeRecord, ListingSub, Rating, Severity, TroubleCode};
 use std::array::from_fn;
 
-const SUBS: [u8; 2] = [0x02, 0x08];
+pub const SUBS: [u8; 2] = [0x02, 0x08];
 /// Codes that differ in one byte, in two and in all, with high bytes at both ends; and statuses.
 const CHOSEN: [[u8; 4]; 6] = [
     [0x00, 0x00, 0x00, 0x00],
@@ -35,10 +35,10 @@ const ABSENT: [Code; 4] = [
     [0x04, 0x01, 0x11],
     [0xFE, 0, 0],
 ];
-const MOST: usize = 4096;
+pub const MOST: usize = 4096;
 
 /// A record as a listing of this sub-function has it.
-fn record(sub: u8, rating: [u8; 2], [high, middle, low, status]: [u8; 4]) -> Record {
+pub fn record(sub: u8, rating: [u8; 2], [high, middle, low, status]: [u8; 4]) -> Record {
     Record {
         rating: (sub == 0x08).then_some(rating),
         code: [high, middle, low],
@@ -46,7 +46,7 @@ fn record(sub: u8, rating: [u8; 2], [high, middle, low, status]: [u8; 4]) -> Rec
     }
 }
 
-fn chosen(sub: u8) -> [Record; 6] {
+pub fn chosen(sub: u8) -> [Record; 6] {
     from_fn(|i| record(sub, RATINGS[i], CHOSEN[i]))
 }
 
@@ -63,7 +63,7 @@ fn handed(records: &[Record], mark: u8) -> Vec<u8> {
     records.iter().flat_map(bytes).collect()
 }
 
-fn of_code([high, middle, low]: Code) -> TroubleCode {
+pub fn of_code([high, middle, low]: Code) -> TroubleCode {
     TroubleCode { high, middle, low }
 }
 

@@ -25,6 +25,8 @@ mod rng;
 mod sheets;
 mod sweep;
 mod tally;
+mod text_model;
+mod texts;
 mod why;
 mod write;
 
@@ -83,6 +85,10 @@ fn main() {
     step(b, "marks of records handed over", listings::marks);
     step(b, "indexes that are another's", listings::other_indexes);
     step(b, "long listings", listings::long_listings);
+    step(b, "codes as text", texts::codes);
+    step(b, "texts that are no code", texts::code_faults);
+    step(b, "listings as text", texts::listings);
+    step(b, "texts that are no listing", texts::listing_faults);
     if !arguments.quick {
         step(b, "all messages of up to 3 bytes", sweep::short_messages);
         step(b, "messages of 4 to 7 chosen bytes", sweep::chosen_messages);
@@ -115,6 +121,7 @@ fn random_rounds(bench: &mut Bench, seed: u64, end: Instant) {
     let mut joined = Rng::new(!seed.rotate_left(32));
     let mut messages = Rng::new(seed ^ 0x7F);
     let mut listed = Rng::new(seed.rotate_left(32) ^ 9);
+    let mut lines = Rng::new(seed.rotate_left(32) ^ 12);
     loop {
         random::round(bench, &mut rng);
         replays::round(bench, &mut logs);
@@ -122,6 +129,7 @@ fn random_rounds(bench: &mut Bench, seed: u64, end: Instant) {
         joined::round(bench, &mut joined);
         message::round(bench, &mut messages);
         listings::round(bench, &mut listed);
+        texts::round(bench, &mut lines);
         if let Some(recorder) = &mut bench.recorder {
             recorder.end();
         }

@@ -99,6 +99,7 @@ fn readers(bench: &mut Bench) {
         flat::replay_log(none),
     );
     listings(bench);
+    texts(bench);
 }
 
 fn listings(bench: &mut Bench) {
@@ -140,7 +141,30 @@ fn listings(bench: &mut Bench) {
         writer(bench, Call::WriteListing, |p, n, r, k| unsafe {
             c::skr_write_listing(sub, 0x7F, p, n, r, k)
         });
+        writer(bench, Call::ExportListing, |p, n, r, k| unsafe {
+            c::skr_export_listing(sub, p, n, r, k)
+        });
+        let one = [0x59, sub, 0xFF, 0x81, 0x05, 0x03, 0x01, 0x11, 0x2F];
+        let len = if sub == 0x02 { 7 } else { one.len() };
+        writer(bench, Call::ExportListing, |_, _, r, k| unsafe {
+            c::skr_export_listing(sub, one.as_ptr(), len, r, k)
+        });
     }
+}
+
+fn texts(bench: &mut Bench) {
+    reader(
+        bench,
+        Call::ReadCodeText,
+        unsafe { c::skr_read_code_text(null(), 0) },
+        flat::read_code_text(&[]),
+    );
+    writer(bench, Call::CodeText, |_, _, r, k| unsafe {
+        c::skr_code_text(0x03, 0x01, 0x11, r, k)
+    });
+    writer(bench, Call::ImportListing, |p, n, r, k| unsafe {
+        c::skr_import_listing(0x7F, p, n, r, k)
+    });
 }
 
 /// The doors of whole messages.

@@ -36,9 +36,13 @@ pub enum Call {
     ListingIndex,
     LookUp,
     WriteListing,
+    CodeText,
+    ReadCodeText,
+    ExportListing,
+    ImportListing,
 }
 
-const CALLS: [&str; 32] = [
+const CALLS: [&str; 36] = [
     "requests read",
     "responses read",
     "routine requests read",
@@ -71,6 +75,10 @@ const CALLS: [&str; 32] = [
     "indexes of listings",
     "codes looked up",
     "listings written",
+    "codes written as text",
+    "codes read as text",
+    "listings exported as text",
+    "listings imported from text",
 ];
 
 /// What no door leads to, in the order of the letters that the recorded list has for it.
@@ -153,9 +161,10 @@ pub enum Rule {
     Joined,
     WholeMessage,
     Listing,
+    Text,
 }
 
-const RULES: [&str; 16] = [
+const RULES: [&str; 17] = [
     "size width 0 or 17 up: refusal 6 with the width",
     "routine request refused with 4: the byte is the low seven bits",
     "too little room: refusal 7, and nothing is written",
@@ -172,6 +181,7 @@ const RULES: [&str; 16] = [
     "joined requests: ours, as document 02 has them",
     "whole messages: document 02's, behind the service byte 01's",
     "listings, indexes and lookups: ours, as document 02 has them",
+    "codes and listings as text: ours, as document 02 has them",
 ];
 
 impl Rule {
@@ -192,7 +202,6 @@ impl Rule {
 }
 
 /// The counts.
-#[derive(Default)]
 pub struct Tally {
     original: [u64; CALLS.len()],
     number: [u64; CALLS.len()],
@@ -202,6 +211,17 @@ pub struct Tally {
 }
 
 impl Tally {
+    /// Nothing was compared yet.
+    pub fn new() -> Self {
+        Self {
+            original: [0; CALLS.len()],
+            number: [0; CALLS.len()],
+            paper: [0; CALLS.len()],
+            rules: [0; RULES.len()],
+            items: [[0; 2]; ITEMS.len()],
+        }
+    }
+
     /// One more answer that was equal to the original's, or, where a rule is given, to what that rule says. Of a sub-function's byte
     /// and of a name's length the rule says no more than these: the refusal's number is as the original's.
     pub fn count(&mut self, call: Call, rule: Option<Rule>) {

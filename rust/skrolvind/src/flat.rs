@@ -441,6 +441,28 @@ pub mod c {
             room: *mut u8,
             room_len: usize,
         ) -> Written;
+        pub fn skr_code_text(
+            high: u8,
+            middle: u8,
+            low: u8,
+            room: *mut u8,
+            room_len: usize,
+        ) -> Written;
+        pub fn skr_read_code_text(text: *const u8, text_len: usize) -> TroubleCode;
+        pub fn skr_export_listing(
+            sub: u8,
+            listing: *const u8,
+            listing_len: usize,
+            room: *mut u8,
+            room_len: usize,
+        ) -> Written;
+        pub fn skr_import_listing(
+            mask: u8,
+            text: *const u8,
+            text_len: usize,
+            room: *mut u8,
+            room_len: usize,
+        ) -> Written;
     }
 }
 
@@ -762,4 +784,38 @@ pub fn write_listing(sub: u8, mask: u8, records: &[u8], room: &mut [u8]) -> Writ
     let (r, r_len) = (room.as_mut_ptr(), room.len());
     // SAFETY: each pointer stands with its own slice's length, and the two slices do not overlap.
     unsafe { c::skr_write_listing(sub, mask, d, d_len, r, r_len) }
+}
+
+/// `skr_code_text`.
+#[inline]
+pub fn code_text(code: crate::TroubleCode, room: &mut [u8]) -> Written {
+    let crate::TroubleCode { high, middle, low } = code;
+    // SAFETY: the pointer and the length are those of one slice.
+    unsafe { c::skr_code_text(high, middle, low, room.as_mut_ptr(), room.len()) }
+}
+
+/// `skr_read_code_text`.
+#[must_use]
+#[inline]
+pub fn read_code_text(text: &[u8]) -> TroubleCode {
+    // SAFETY: the pointer and the length are those of one slice.
+    unsafe { c::skr_read_code_text(text.as_ptr(), text.len()) }
+}
+
+/// `skr_export_listing`.
+#[inline]
+pub fn export_listing(sub: u8, listing: &[u8], room: &mut [u8]) -> Written {
+    let (l, l_len) = (listing.as_ptr(), listing.len());
+    let (r, r_len) = (room.as_mut_ptr(), room.len());
+    // SAFETY: each pointer stands with its own slice's length, and the two slices do not overlap.
+    unsafe { c::skr_export_listing(sub, l, l_len, r, r_len) }
+}
+
+/// `skr_import_listing`.
+#[inline]
+pub fn import_listing(mask: u8, text: &[u8], room: &mut [u8]) -> Written {
+    let (t, t_len) = (text.as_ptr(), text.len());
+    let (r, r_len) = (room.as_mut_ptr(), room.len());
+    // SAFETY: each pointer stands with its own slice's length, and the two slices do not overlap.
+    unsafe { c::skr_import_listing(mask, t, t_len, r, r_len) }
 }

@@ -26,6 +26,7 @@ mod replay;
 mod severity;
 #[cfg(test)]
 mod tests;
+mod text;
 mod types;
 mod write;
 
@@ -36,5 +37,6 @@ pub use message::*;
 pub use read::*;
 pub use replay::*;
 pub use severity::*;
+pub use text::*;
 pub use types::*;
 pub use write::*;

@@ -112,8 +112,8 @@ impl From<CodeRecord> for Listed {
 /// ```
 #[derive(Clone, Copy, Debug, PartialEq, Eq)]
 pub struct Listing<'a> {
-    sub: ListingSub,
-    message: &'a [u8],
+    pub(crate) sub: ListingSub,
+    pub(crate) message: &'a [u8],
     mask: u8,
     len: usize,
 }

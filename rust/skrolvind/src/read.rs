@@ -168,7 +168,11 @@ pub fn valid_up_to(name: &[u8]) -> usize {
 /// Refusal 5.
 #[inline]
 pub fn trouble_code(number: u32) -> Result<TroubleCode, Refusal> {
-    let r = flat::dtc_from_number(number);
+    code(flat::dtc_from_number(number))
+}
+
+#[inline]
+pub(crate) fn code(r: flat::TroubleCode) -> Result<TroubleCode, Refusal> {
     accepted(r.number, r.first, r.second)?;
     Ok(TroubleCode {
         high: as_small(r.high),

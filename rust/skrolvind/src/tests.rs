@@ -2,6 +2,7 @@
 extern crate std;
 
 use crate::*;
+use std::string::String;
 use std::vec;
 use std::vec::Vec;
 
@@ -425,11 +426,12 @@ fn a_refusal_and_a_reason_print_their_meaning() {
     let why = why_request(&[7, 0, 2, 0x61]).unwrap_err();
     assert_eq!(std::format!("{why}"), std::format!("name at 1: {text}"));
     // each number has a meaning of its own
-    let mut meanings: Vec<_> = (0..=16).map(|n| refusal(n, 0, 0).meaning()).collect();
+    let numbers = (0..=16).chain([18]);
+    let mut meanings: Vec<_> = numbers.map(|n| refusal(n, 0, 0).meaning()).collect();
     assert_eq!(meanings[0], refusal(99, 0, 0).meaning());
     meanings.sort_unstable();
     meanings.dedup();
-    assert_eq!(meanings.len(), 17);
+    assert_eq!(meanings.len(), 18);
 }
 
 const LISTING: [u8; 15] = [
@@ -585,6 +587,90 @@ fn codes_are_looked_up_by_the_own_index_alone() {
             assert_eq!(other.get(code), Err(refusal(11, 0, 0)));
         }
     }
+}
+
+#[test]
+fn codes_as_text() {
+    for (bytes, text) in [
+        (code(0x03, 0x01, 0x11), "P0301-11"),
+        (code(0xC1, 0x00, 0x00), "U0100-00"),
+        (code(0x5A, 0xBC, 0xDE), "C1ABC-DE"),
+        (code(0xBF, 0xFF, 0xFF), "B3FFF-FF"),
+    ] {
+        assert_eq!(std::format!("{bytes}"), text);
+        assert_eq!(std::format!("{bytes:>10}"), std::format!("  {text}"));
+        assert_eq!(text.parse(), Ok(bytes));
+        let mut room = [0xAA; 9];
+        let short = flat::code_text(bytes, &mut room[..7]);
+        assert_eq!((short.number, short.first, short.second), (7, 8, 7));
+        assert_eq!(room, [0xAA; 9]);
+        assert_eq!(flat::code_text(bytes, &mut room).written, 8);
+        assert_eq!((&room[..8], room[8]), (text.as_bytes(), 0xAA));
+    }
+    for (text, place) in [
+        ("", 0),
+        ("P0301-1", 7),
+        ("P0301-111", 8),
+        ("P0301-11\n", 8),
+        ("P0301_111", 5),
+        ("p0301-11", 0),
+        ("X0301-11", 0),
+        ("P4301-11", 1),
+        ("P0a01-11", 2),
+        ("P0301-1f", 7),
+        (" P0301-11", 0),
+        ("P03\u{0661}1-11", 3),
+    ] {
+        let read = text.parse::<TroubleCode>();
+        assert_eq!(read, Err(refusal(18, place, 0)), "{text}");
+    }
+}
+
+#[test]
+fn listings_as_text() {
+    let text = "P0301-11 2F\nU0100-00 08\nP0301-11 09\n";
+    for (sub, message) in SUBS {
+        let listing = Listing::read(sub, message).unwrap();
+        let mut room = [0xAA; 37];
+        let short = listing.export(&mut room[..35]);
+        assert_eq!(short, Err(refusal(7, 36, 35)));
+        assert_eq!(room, [0xAA; 37]);
+        assert_eq!(listing.export(&mut room), Ok(36));
+        assert_eq!((&room[..36], room[36]), (text.as_bytes(), 0xAA));
+    }
+    let empty = Listing::read(ListingSub::BySeverityMask, &RATED[..3]).unwrap();
+    assert_eq!(empty.export(&mut []), Ok(0));
+    // the severity does not come back
+    let mut room = [0xAA; 16];
+    let imported = import_listing(0x7F, text.as_bytes(), &mut room);
+    assert_eq!(imported, Ok(15));
+    assert_eq!((&room[..15], room[15]), (&LISTING[..], 0xAA));
+    assert_eq!(import_listing(0x08, b"", &mut room), Ok(3));
+    assert_eq!(room[..4], [0x59, 0x02, 0x08, 0x03]);
+}
+
+#[test]
+fn texts_that_are_no_listing() {
+    let line = "P0301-11 2F\n";
+    let lines = |count| line.repeat(count);
+    for (text, wanted) in [
+        (String::from("\n"), refusal(18, 0, 0)),
+        (lines(2) + "\n", refusal(18, 24, 0)),
+        (lines(2) + "P0301-11 2F", refusal(18, 35, 0)),
+        (lines(1) + "P0301-11 2F\r\n", refusal(18, 23, 0)),
+        (lines(1) + "P0301-11 2f\n", refusal(18, 22, 0)),
+        (lines(1) + "P0301-11\n", refusal(18, 20, 0)),
+        (lines(4097) + "x", refusal(18, 49_164, 0)),
+        (lines(4097), refusal(12, 0, 0)),
+        (lines(2), refusal(7, 11, 10)),
+    ] {
+        let mut room = [0xAA; 10];
+        let imported = import_listing(0xFF, text.as_bytes(), &mut room);
+        assert_eq!((imported, room), (Err(wanted), [0xAA; 10]));
+    }
+    let mut room = vec![0; 3 + 4 * 4096];
+    let full = import_listing(0xFF, lines(4096).as_bytes(), &mut room);
+    assert_eq!(full, Ok(16_387));
 }
 
 #[test]
