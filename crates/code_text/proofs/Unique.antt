@@ -9,6 +9,8 @@ use Rattle.wire.proofs.UniqueWriting.{WritesOnce, wrote-once}
 use Rattle.dtc.proofs.Rounds.{recordOf}
 use Rattle.code_text.specs.CodeText.{codeSaid}
 use Rattle.code_text.specs.declared.code.CodeAnswer.{CodeAnswer}
+use Rattle.code_text.proofs.character.hex_value.Kinds as hex-value-kinds
+use Rattle.code_text.proofs.character.hex_value.Reads as hex-value
 use Rattle.code_text.proofs.code.put_code_text.Kinds as put-code-text-kinds
 use Rattle.code_text.proofs.code.put_code_text.Reads as put-code-text
 use Rattle.code_text.proofs.code.read_code_text.Kinds as read-code-text-kinds
@@ -17,6 +19,9 @@ use Rattle.code_text.proofs.lines.export_listing.Kinds as export-listin
 use Rattle.code_text.proofs.lines.export_listing.Reads as export-listing
 use Rattle.code_text.proofs.lines.import_listing.Kinds as import-listing-kinds
 use Rattle.code_text.proofs.lines.import_listing.Reads as import-listing
+
+pub hex-value-determined : Determined 0 hex-value-kinds.ps hex-value-kinds.r hex-value.Post
+hex-value-determined κs a x y r₁ r₂ p q = p ∙ sym q
 
 -- ---- reading a code
 -- the answer that the paper's stands for

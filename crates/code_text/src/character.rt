@@ -52,6 +52,7 @@ pub(crate) fn hex(n: u8) -> u8
 
 // ---- Read: the character's place among those that can stand there; where it is none of them, as many as there are.
 
+// Among P, C, B and U.
 pub(crate) fn letter_value(c: u8) -> u8
     ensures { λ r. ⌜ r ≡ placeIn (ascii "PCBU") c ⌝ }
 {
@@ -70,6 +71,7 @@ pub(crate) fn letter_value(c: u8) -> u8
     4
 }
 
+// Among 0 to 3.
 pub(crate) fn quarter_value(c: u8) -> u8
     ensures { λ r. ⌜ r ≡ placeIn (ascii "0123") c ⌝ }
 {
@@ -82,7 +84,8 @@ pub(crate) fn quarter_value(c: u8) -> u8
     4
 }
 
-pub(crate) fn hex_value(c: u8) -> u8
+// Among 0 to 9, then A to F.
+pub fn hex_value(c: u8) -> u8
     ensures { λ r. ⌜ r ≡ placeIn hexDigits c ⌝ }
 {
     if c < b'0' {

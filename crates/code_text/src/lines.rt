@@ -32,6 +32,7 @@ ghost use Rattle.code_text.specs.Lines.{lineShown, recordsRead, WholeLin
 
 // ---- Exported.
 
+// A record's line. Its severity is not carried.
 fn put_line(listed: Listed, out: &mut [u8]) -> WriteAnswer
     ensures { λ r. ⌜ Wrote (accepted (lineText (listedOf listed))) (now (out .entry)) r (now (out .exit)) ⌝ }
 {

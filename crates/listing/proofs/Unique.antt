@@ -6,12 +6,14 @@ use mathlib.Core.Option.{Option, none, some}
 use Prim.Native.Nat.{ℕ}
 use Rattle.paper.specs.Answer.{Answer, accepted, refused}
 use Rattle.paper.specs.Listing as paper
-use Rattle.paper.specs.Listing.{Head, Found, headOf}
+use Rattle.paper.specs.Listing.{byStatusMask, bySeverityMask, Head, Found, headOf}
 use Rattle.wire.proofs.Refusals.{refusalBack, refusal-back}
 use Rattle.wire.proofs.Unique.{Determined}
 use Rattle.wire.proofs.UniqueWriting.{WritesOnce, wrote-once}
-use Rattle.listing.specs.Listing.{headSaid, recordSaid, listedOf}
+use Rattle.listing.specs.Listing.{subOf, headSaid, recordSaid, listedOf}
 use Rattle.listing.specs.Index.{IndexedRight, lookSaid}
+use Rattle.listing.specs.declared.SubFunction.{SubFunction}
+use Rattle.listing.specs.declared.SubFunction.the-variants.{ByStatusMask, BySeverityMask}
 use Rattle.listing.specs.declared.Listed.{Listed}
 use Rattle.listing.specs.declared.ListingAnswer.{ListingAnswer}
 use Rattle.listing.specs.declared.RecordAnswer.{RecordAnswer}
@@ -21,6 +23,8 @@ use Rattle.listing.proofs.SubFunction.byte.Kinds as byte-kinds
 use Rattle.listing.proofs.SubFunction.byte.Reads as byte
 use Rattle.listing.proofs.ListingAnswer.refusal.Kinds as refusal-kinds
 use Rattle.listing.proofs.ListingAnswer.refusal.Reads as refusal
+use Rattle.listing.proofs.sub_function_said.Kinds as sub-function-said-kinds
+use Rattle.listing.proofs.sub_function_said.Reads as sub-function-said
 use Rattle.listing.proofs.read_listing.Kinds as read-listing-kinds
 use Rattle.listing.proofs.read_listing.Reads as read-listing
 use Rattle.listing.proofs.record_at.Kinds as record-at-kinds
@@ -43,6 +47,18 @@ pub refusal-determined : Determined 0 refusal-kinds.ps refusal-kinds.r refusal.P
 refusal-determined κs a x y r₁ r₂ p q = p ∙ sym q
 
 -- ---- the answers that the paper's stand for
+subBack : paper.SubFunction → SubFunction
+subBack byStatusMask = ByStatusMask
+subBack bySeverityMask = BySeverityMask
+
+sub-back : (f : SubFunction) → subBack (subOf f) ≡ f
+unfolding subBack
+sub-back ByStatusMask = refl
+sub-back BySeverityMask = refl
+
+pub sub-function-said-determined : Determined 1 sub-function-said-kinds.ps sub-function-said-kinds.r sub-function-said.Post
+sub-function-said-determined κs a x y r₁ r₂ p q = sym (sub-back r₁) ∙ ap subBack (p ∙ sym q) ∙ sub-back r₂
+
 abbrev pub listedBack : paper.Listed → Listed
 listedBack r = record {
   known = r .known;

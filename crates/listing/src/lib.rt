@@ -11,6 +11,7 @@ ghost use mathlib.Core.Path.{_≡_};
 ghost use Prim.Native.Nat.{_/_, _%_, _+_, _*_, _≤_};
 ghost use lib.ListN.{length, drop};
 ghost use Rattle.paper.specs.Listing.{byStatusMask, bySeverityMask, subFunctionByte, recordSize, recordOf, readListing, headOf, recordAt};
+ghost use Rattle.paper.specs.ListingProgram.{subFunctionSaid};
 ghost use Rattle.listing.specs.Listing.{subOf, listedOf, headSaid, headRefusal, recordSaid, Stands};
 
 // Which question a listing answers, and with it a record's form.
@@ -64,6 +65,19 @@ impl ListingAnswer {
             ListingAnswer::Accepted(_, _) => Refusal::WrongFormat { good: 0 },
         }
     }
+}
+
+// The sub-function that a listing says itself: 0x08 in its second byte; else it is taken for 0x02, whose reader refuses what is neither.
+pub fn sub_function_said(s: &[u8]) -> SubFunction
+    ensures { λ r. ⌜ subOf r ≡ subFunctionSaid (now (s .entry)) ⌝ }
+{
+    if s.len() < 2 {
+        return SubFunction::ByStatusMask;
+    }
+    if s[1] == 0x08 {
+        return SubFunction::BySeverityMask;
+    }
+    SubFunction::ByStatusMask
 }
 
 // How many whole records so many bytes have.

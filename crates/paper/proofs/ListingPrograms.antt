@@ -8,7 +8,7 @@ use lib.ListN.{replicate}
 use Rattle.paper.specs.ReadingProgram.{decimalIn, decimal, ascii, textOf}
 use Rattle.paper.specs.Listing.{oneByOne, recordsIn, readListing, recordsBytes, listingBytes, firstPlace, numbersFrom}
 use Rattle.paper.specs.CodeText.{codePlaces, linePlaces, lineText, linesText, exportListing, wrongAt, firstWrong, recordsInLines, importListing}
-use Rattle.paper.specs.ListingProgram.{exportText, Printed, toOutput, toError, howToUse, importWrites}
+use Rattle.paper.specs.ListingProgram.{exportText, Printed, toOutput, toError, importPrints, howToUse, importWrites}
 
 -- ---- export_listing
 abbrev exports : List (List ℕ × String)
@@ -56,10 +56,10 @@ imports =
     ∷ []
 
 pub imports-right : map (λ (r : String × String × Printed). importWrites (ascii (r .0)) (ascii (r .1))) imports ≡ map (λ (r : String × String × Printed). r .2) imports
-unfolding decimalIn decimal textOf codePlaces linePlaces firstPlace numbersFrom wrongAt firstWrong oneByOne recordsInLines recordsBytes listingBytes importListing importWrites
+unfolding decimalIn decimal textOf codePlaces linePlaces firstPlace numbersFrom wrongAt firstWrong oneByOne recordsInLines recordsBytes listingBytes importListing importPrints importWrites
 imports-right = refl
 
 -- a text of more than 65,536 characters is too long, after an argument that is no mask
 pub too-long : importWrites (ascii "7F") (replicate 65537 0) ∷ importWrites (ascii "7f") (replicate 65537 0) ∷ [] ≡ toError (ascii "too long\n") ∷ toError howToUse ∷ []
-unfolding textOf firstPlace importWrites
+unfolding textOf firstPlace importPrints importWrites
 too-long = refl

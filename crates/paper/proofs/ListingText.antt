@@ -14,10 +14,10 @@ use Rattle.paper.specs.Answer.{Refusal, Answer, accepted, refused, tooMa
 use Rattle.paper.specs.Bytes.{Bytes}
 use Rattle.paper.specs.Joined.{Each}
 use Rattle.paper.specs.Listing.{SubFunction, byStatusMask, bySeverityMask, Listed, recordBytes, Listing, listing, oneByOne, readListing, recordsBytes, listingBytes, InForm}
-use Rattle.paper.specs.CodeText.{linesText, exportListing, lines, canStand, recordsInLines, importListing, withoutSeverity, InRow, FirstBad, NoneBad}
+use Rattle.paper.specs.CodeText.{linesText, exportIn, exportListing, lines, canStand, recordsInLines, importListing, withoutSeverity, InRow, FirstBad, NoneBad}
 use Rattle.paper.proofs.Choice.{never, check-passed}
 use Rattle.paper.proofs.Bytes.{bytes-left, bytes-right}
-use Rattle.paper.proofs.Listing.{accepted-is, bytes-accepted}
+use Rattle.paper.proofs.Listing.{length-bytes, accepted-is, bytes-accepted}
 use Rattle.paper.proofs.Spelling.{row-in}
 use Rattle.paper.proofs.TextPlaces.{Right, right-none, none-right, right-passes, bad-refused, passed-right, refused-by}
 use Rattle.paper.proofs.LineText.{LineBytes, length-lines, length-in-lines, lines-back, lines-right, lines-spelt}
@@ -159,3 +159,18 @@ imported-exported m t {s} e =
     let n = length t / 12 in
     let read = bytes-accepted (listing byStatusMask m (recordsInLines n t)) (rw (length-in-lines n t) few) (in-lines-form n t) in
     rw is (export-accepted byStatusMask (importedAs m t) read ∙ ap accepted (lines-spelt n t (whole-lines t (right-none lines t r)) (r .stand)))
+
+-- ---- how long they can be: with so much room 7 never comes
+pub export-longest : (f : SubFunction) (s : List ℕ) {t : List ℕ} → exportListing f s ≡ accepted t → length t ≤ 49152
+unfolding exportListing
+export-longest f s {t} e = by (readListing f s) refl e
+  where
+    by : (a : Answer Listing) → readListing f s ≡ a → exportIn a ≡ accepted t → length t ≤ 49152
+    by (refused x) r q = absurd (never q)
+    by (accepted l) r q = let is : linesText (l .records) ≡ t = cc in rw (← is) (omega (arith, length-lines (l .records), accepted-is f s r .1))
+
+pub import-longest : (m : ℕ) (t : List ℕ) {s : List ℕ} → importListing m t ≡ accepted s → length s ≤ 16387
+unfolding listingBytes
+import-longest m t e =
+    let (_, few, is) = import-is m t e in
+    omega (arith, ap length is, length-bytes byStatusMask (recordsInLines (length t / 12) t), length-in-lines (length t / 12) t)

@@ -25,7 +25,7 @@ unfoldable pub exportText : List ℕ → List ℕ
 exportText s = pick (leb (length s) 65536) (linesOr (exportListing (subFunctionSaid s) s)) (textOf tooLong)
 
 -- ---- import_listing
--- what it writes: a listing to standard output, or a line to standard error
+-- what it writes: a listing to standard output, or a line to standard error and nothing to standard output
 pub data Printed : Type 0 where
   toOutput : List ℕ → Printed
   toError : List ℕ → Printed
@@ -34,17 +34,21 @@ abbrev pub listingOr : Answer (List ℕ) → Printed
 listingOr (accepted s) = toOutput s
 listingOr (refused e) = toError (textOf (bad e))
 
--- its one argument is the mask: two hex digits, capitals
+-- with a mask, of a text; above 65,536 bytes `too long`
+unfoldable pub importPrints : (mask : ℕ) → List ℕ → Printed
+importPrints mask t = pick (leb (length t) 65536) (listingOr (importListing mask t)) (toError (textOf tooLong))
+
+-- ---- its one argument
+-- the mask: two hex digits, capitals
 abbrev pub isMask : List ℕ → Bool
 isMask w = both (eqb (length w) 2) (both (ltb (hexAt w 0) 16) (ltb (hexAt w 1) 16))
 
 abbrev pub maskIn : List ℕ → ℕ
 maskIn w = hexAt w 0 * 16 + hexAt w 1
 
--- what it says where the argument is none, or there is none or more than one
+-- what it says to standard error where the argument is no mask, or there is none or more than one
 abbrev pub howToUse : List ℕ
 howToUse = ascii "usage: import_listing MASK < TEXT, where MASK is two hex digits, 00 to FF\n"
 
--- all that it writes, of its argument and the text; above 65,536 bytes `too long`
-unfoldable pub importWrites : (mask text : List ℕ) → Printed
-importWrites w t = pick (isMask w) (pick (leb (length t) 65536) (listingOr (importListing (maskIn w) t)) (toError (textOf tooLong))) (toError howToUse)
+unfoldable pub importWrites : (argument text : List ℕ) → Printed
+importWrites w t = pick (isMask w) (importPrints (maskIn w) t) (toError howToUse)
