@@ -20,6 +20,7 @@ pub mod Codes
 pub mod Lines
 pub mod Desk
 pub mod Count
+pub mod InOrder
 pub mod Tally
 pub mod Sheets
 pub mod WrongLoads
@@ -44,4 +45,7 @@ pub mod CodeText
 pub mod CodeTextVectors
 pub mod LineText
 pub mod ListingText
+pub mod Repeats
+pub mod Changes
+pub mod ChangesVectors
 pub mod ListingPrograms

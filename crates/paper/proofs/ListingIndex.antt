@@ -22,6 +22,7 @@ use Rattle.paper.proofs.Choice.{both-true, never}
 use Rattle.paper.proofs.Bytes.{bytes-right}
 use Rattle.paper.proofs.Count.{one, count-append, count-le, split-count, from, one-equal, value-at, values-same, set-value, map-same}
 use Rattle.paper.proofs.Listing.{accepted-is}
+use Rattle.paper.proofs.InOrder.{nothing, there-below, drop-there}
 
 -- ---- the place of the first
 module _ {A : Type 0} (test : A → Bool) where
@@ -237,11 +238,6 @@ is-has c r e = rw (eq-eqb _ _ (ap TroubleCode.high e), eq-eqb _ _ (ap TroubleCod
 not-has : (c : TroubleCode) (r : Listed) → hasCode c r ≡ false → r .code ≡ c → ⊥
 not-has c r e q = true≢false (sym (is-has c r q) ∙ e)
 
--- an empty list has a record nowhere
-nothing : (j : ℕ) {r : Listed} → getElem? [] j ≡ some r → ⊥
-nothing zero e = let z : _≡_ {A = ℕ} 0 1 = cc in omega arith
-nothing (suc j) e = let z : _≡_ {A = ℕ} 0 1 = cc in omega arith
-
 -- the record that was found, j places after the first of these
 abbrev FoundFrom : ℕ → TroubleCode → List Listed → Found → Type 0
 FoundFrom k c rs x = (j : ℕ) × (x .place ≡ k + j) × First c rs (record { place = j; «record» = x .«record» })
@@ -384,15 +380,6 @@ search-starts c rs = by (eqb (howMany rs (c .high)) 0) refl
       same = sym (passed-over c 0 rs ∙ ap (λ (j : ℕ). find j c (drop (firstPlace (hasHigh (c .high)) rs) rs)) (zero-add _));
     }
 
--- the record at a place stands before those behind it
-there : (rs : List Listed) (k : ℕ) {r : Listed} → getElem? rs k ≡ some r → drop k rs ≡ r ∷ drop (suc k) rs
-there [] k e = absurd (nothing k e)
-there (x ∷ rs) zero {r} e = let same : x ≡ r = cc in rw same
-there (x ∷ rs) (suc k) e = there rs k e
-
-within-more : (rs : List Listed) (k : ℕ) {r : Listed} → getElem? rs k ≡ some r → suc k ≤ length rs
-within-more rs k e = omega (arith, ap length (there rs k e), length-drop k rs)
-
 -- where none has the high byte, none has the code
 none-counted : (c : TroubleCode) (k : ℕ) (rs : List Listed) → howMany rs (c .high) ≡ 0 → find k c rs ≡ refused noSuchCode
 unfolding find count
@@ -416,29 +403,29 @@ module _ (c : TroubleCode) (rs : List Listed) (k left : ℕ) (now : Searching c 
     -- those that are left: this one, or not, and those behind it
     left-here : left ≡ one (hasHigh (c .high) r) + howMany (drop (suc k) rs) (c .high)
     unfolding count
-    left-here = now .many ∙ ap (λ (xs : List Listed). howMany xs (c .high)) (there rs k is)
+    left-here = now .many ∙ ap (λ (xs : List Listed). howMany xs (c .high)) (drop-there rs k is)
 
     -- it has the code
     pub search-found : hasCode c r ≡ true → find 0 c rs ≡ accepted (record { place = k; «record» = r })
     unfolding find
-    search-found e = sym (now .same) ∙ rw (there rs k is, e)
+    search-found e = sym (now .same) ∙ rw (drop-there rs k is, e)
 
     -- it has the high byte, and not the code
     pub search-less : hasHigh (c .high) r ≡ true → hasCode c r ≡ false → Searching c rs (suc k) (left - 1)
     unfolding find
     search-less h e = record {
-      within = within-more rs k is;
+      within = there-below rs k is;
       many = omega (arith, rw h at left-here);
-      same = sym (rw (there rs k is, e) refl) ∙ now .same;
+      same = sym (rw (drop-there rs k is, e) refl) ∙ now .same;
     }
 
     -- it has another high byte
     pub search-on : hasHigh (c .high) r ≡ false → Searching c rs (suc k) left
     unfolding find
     search-on h = record {
-      within = within-more rs k is;
+      within = there-below rs k is;
       many = omega (arith, rw h at left-here);
-      same = sym (rw (there rs k is, other-high c r h) refl) ∙ now .same;
+      same = sym (rw (drop-there rs k is, other-high c r h) refl) ∙ now .same;
     }
 
 -- ---- the cases of a lookup

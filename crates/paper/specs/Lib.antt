@@ -29,5 +29,6 @@ pub mod Joined
 pub mod WholeMessage
 pub mod MessageProgram
 pub mod Listing
+pub mod Changes
 pub mod CodeText
 pub mod ListingProgram
