@@ -3,3 +3,4 @@ pub mod Turns
 pub mod Writing
 pub mod Unique
 pub mod Calls
+pub mod Comparing

@@ -97,12 +97,12 @@ holds f s {m} {n} h = by (readListing f s) refl h
         rw (same, count) h
 
 -- and of one that was refused
+pub refused-head : (a : Answer Listing) {e : Refusal} → refused e ≡ headOf a → a ≡ refused e
+refused-head (accepted l) q = absurd (never q)
+refused-head (refused x) q = sym (cc)
+
 pub not-read : (f : paper.SubFunction) (s : List ℕ) {e : Refusal} → refused e ≡ headOf (readListing f s) → readListing f s ≡ refused e
-not-read f s {e} h = by (readListing f s) refl h
-  where
-    by : (a : Answer Listing) → readListing f s ≡ a → refused e ≡ headOf a → readListing f s ≡ refused e
-    by (accepted l) r q = absurd (never q)
-    by (refused x) r q = r ∙ sym (cc)
+not-read f s h = refused-head (readListing f s) h
 
 -- ---- the records of a listing, by place
 module _ (f : paper.SubFunction) (s : List ℕ) (m n : ℕ) (h : Holds f s m n) (k : ℕ) where

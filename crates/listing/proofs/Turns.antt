@@ -19,12 +19,8 @@ use Rattle.paper.specs.Listing.{SubFunction, Listed, recordSize, recordOf, oneB
 use Rattle.paper.proofs.Listing.{length-records, record-there, records-more}
 use Rattle.paper.proofs.ListingIndex.{no-counts, no-firsts, counted-more, new-first, old-first, count-small, count-at, first-at, own-only, Searching, search-starts, search-within, search-found, search-less, search-on}
 use Rattle.dtc.specs.Status.{sameCode}
-use Rattle.listing.specs.Listing.{Stands, Held, recordsOf}
+use Rattle.listing.specs.Listing.{Stands, Held, recordsOf, recordHere}
 use Rattle.listing.specs.Index.{numbersIn}
-
--- the record at a place
-abbrev pub recordHere : SubFunction → List ℕ → ℕ → Listed
-recordHere f s k = recordOf f (drop (recordSize f * k) (drop 3 s))
 
 module _ (f : SubFunction) (s : List ℕ) (n k : ℕ) (held : Held f n s) (l : k < n) where
   pub stands-held : Stands f k s
@@ -121,18 +117,18 @@ module _ (rs : List Listed) (cs fs xc xf : List ℕ) (made : numbersIn xc xf ≡
   owns-not e = rw (← made, e) refl
 
 -- what is known of lists that are the own index
-module _ (rs : List Listed) (cs fs : List ℕ) (own : ownIndex rs (numbersIn cs fs) ≡ true) where
-  is-own : numbersIn cs fs ≡ indexOf rs
-  is-own = own-only rs (numbersIn cs fs) own
+pub is-own : (rs : List Listed) (cs fs : List ℕ) → ownIndex rs (numbersIn cs fs) ≡ true → numbersIn cs fs ≡ indexOf rs
+is-own rs cs fs own = own-only rs (numbersIn cs fs) own
 
+module _ (rs : List Listed) (cs fs : List ℕ) (own : numbersIn cs fs ≡ indexOf rs) where
   pub own-lengths : (length cs ≡ 256) × (length fs ≡ 256)
-  own-lengths = (ap (λ (x : Index). length (x .counts)) is-own ∙ length-counts rs, ap (λ (x : Index). length (x .firsts)) is-own ∙ length-firsts rs)
+  own-lengths = (ap (λ (x : Index). length (x .counts)) own ∙ length-counts rs, ap (λ (x : Index). length (x .firsts)) own ∙ length-firsts rs)
 
   pub own-count : {h high : ℕ} → h < 256 → h ≡ high → getD cs h 0 ≡ howMany rs high
-  own-count {h} small e = ap (λ (x : Index). getD (x .counts) h 0) is-own ∙ count-at rs h small ∙ ap (howMany rs) e
+  own-count {h} small e = ap (λ (x : Index). getD (x .counts) h 0) own ∙ count-at rs h small ∙ ap (howMany rs) e
 
   pub own-first : {h high : ℕ} → h < 256 → h ≡ high → getD fs h 0 ≡ firstWith rs high
-  own-first {h} small e = ap (λ (x : Index). getD (x .firsts) h 0) is-own ∙ first-at rs h small ∙ ap (firstWith rs) e
+  own-first {h} small e = ap (λ (x : Index). getD (x .firsts) h 0) own ∙ first-at rs h small ∙ ap (firstWith rs) e
 
 -- ---- the search
 -- it starts where the index says

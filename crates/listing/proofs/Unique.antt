@@ -7,11 +7,14 @@ use Prim.Native.Nat.{ℕ}
 use Rattle.paper.specs.Answer.{Answer, accepted, refused}
 use Rattle.paper.specs.Listing as paper
 use Rattle.paper.specs.Listing.{byStatusMask, bySeverityMask, Head, Found, headOf}
+use Rattle.paper.specs.Changes.{Compared}
 use Rattle.wire.proofs.Refusals.{refusalBack, refusal-back}
 use Rattle.wire.proofs.Unique.{Determined}
-use Rattle.wire.proofs.UniqueWriting.{WritesOnce, wrote-once}
+use Rattle.wire.proofs.UniqueWriting.{answerBack, answer-back, WritesOnce, wrote-once}
+use Rattle.wire.specs.declared.write.WriteAnswer.{WriteAnswer}
 use Rattle.listing.specs.Listing.{subOf, headSaid, recordSaid, listedOf}
 use Rattle.listing.specs.Index.{IndexedRight, lookSaid}
+use Rattle.listing.specs.Changes.{ComparedRight}
 use Rattle.listing.specs.declared.SubFunction.{SubFunction}
 use Rattle.listing.specs.declared.SubFunction.the-variants.{ByStatusMask, BySeverityMask}
 use Rattle.listing.specs.declared.Listed.{Listed}
@@ -19,6 +22,7 @@ use Rattle.listing.specs.declared.ListingAnswer.{ListingAnswer}
 use Rattle.listing.specs.declared.RecordAnswer.{RecordAnswer}
 use Rattle.listing.specs.declared.index.Indexed.{Indexed}
 use Rattle.listing.specs.declared.index.LookUpAnswer.{LookUpAnswer}
+use Rattle.listing.specs.declared.changes.ChangesAnswer.{ChangesAnswer}
 use Rattle.listing.proofs.SubFunction.byte.Kinds as byte-kinds
 use Rattle.listing.proofs.SubFunction.byte.Reads as byte
 use Rattle.listing.proofs.ListingAnswer.refusal.Kinds as refusal-kinds
@@ -31,6 +35,8 @@ use Rattle.listing.proofs.record_at.Kinds as record-at-kinds
 use Rattle.listing.proofs.record_at.Reads as record-at
 use Rattle.listing.proofs.index.index_listing.Kinds as index-listing-kinds
 use Rattle.listing.proofs.index.index_listing.Reads as index-listing
+use Rattle.listing.proofs.changes.read_once.Kinds as read-once-kinds
+use Rattle.listing.proofs.changes.read_once.Reads as read-once
 use Rattle.listing.proofs.index.look_up.Kinds as look-up-kinds
 use Rattle.listing.proofs.index.look_up.Reads as look-up
 use Rattle.listing.proofs.write.put_head.Kinds as put-head-kinds
@@ -39,6 +45,8 @@ use Rattle.listing.proofs.write.put_record.Kinds as put-record-kinds
 use Rattle.listing.proofs.write.put_record.Reads as put-record
 use Rattle.listing.proofs.write.write_listing.Kinds as write-listing-kinds
 use Rattle.listing.proofs.write.write_listing.Reads as write-listing
+use Rattle.listing.proofs.changes.listing_changes.Kinds as listing-changes-kinds
+use Rattle.listing.proofs.changes.listing_changes.Reads as listing-changes
 
 pub byte-determined : Determined 0 byte-kinds.ps byte-kinds.r byte.Post
 byte-determined κs a x y r₁ r₂ p q = p ∙ sym q
@@ -110,6 +118,9 @@ indexed-once a r₁ r₂ p q = ap₂ indexedBack (sym (head-back (r₁ .listing)
 pub index-listing-determined : Determined 1 index-listing-kinds.ps index-listing-kinds.r index-listing.Post
 index-listing-determined κs a x y r₁ r₂ p q = indexed-once _ r₁ r₂ p q
 
+pub read-once-determined : Determined 1 read-once-kinds.ps read-once-kinds.r read-once.Post
+read-once-determined κs a x y r₁ r₂ p q = sym (head-back r₁) ∙ ap headBack (p ∙ sym q) ∙ head-back r₂
+
 pub look-up-determined : Determined 3 look-up-kinds.ps look-up-kinds.r look-up.Post
 look-up-determined κs a x y r₁ r₂ p q = sym (look-back r₁) ∙ ap lookBack (p ∙ sym q) ∙ look-back r₂
 
@@ -122,3 +133,13 @@ put-record-determined κs a x y r₁ r₂ p q = wrote-once p q
 
 pub write-listing-determined : WritesOnce 2 write-listing-kinds.ps write-listing-kinds.r (λ κs x. x .1 .1 .1 .0) write-listing.Post
 write-listing-determined κs a x y r₁ r₂ p q = wrote-once p q
+
+-- ---- the comparison: which listing was refused too. Also for whoever hands it on
+pub compared-once : {c : Compared} {r q : ChangesAnswer} {x y : List ℕ} → ComparedRight c r x → ComparedRight c q y → (r ≡ q) × (x ≡ y)
+compared-once {r = r} {q} h k = (
+  ap₂ (λ (n : ℕ) (w : WriteAnswer). record { which = n; written = w }) (h .which ∙ sym (k .which)) (sym (answer-back (r .written)) ∙ ap answerBack (h .answer ∙ sym (k .answer)) ∙ answer-back (q .written)),
+  h .contents ∙ sym (k .contents),
+)
+
+pub listing-changes-determined : WritesOnce 3 listing-changes-kinds.ps listing-changes-kinds.r (λ κs x. x .1 .1 .1 .1 .0) listing-changes.Post
+listing-changes-determined κs a x y r₁ r₂ p q = compared-once p q

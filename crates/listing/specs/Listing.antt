@@ -7,7 +7,7 @@ use lib.ListN.{length, drop}
 use Rattle.paper.specs.Answer as paper-answer
 use Rattle.paper.specs.Answer.{accepted, refused}
 use Rattle.paper.specs.Listing as paper
-use Rattle.paper.specs.Listing.{byStatusMask, bySeverityMask, recordSize, recordsIn, Head}
+use Rattle.paper.specs.Listing.{byStatusMask, bySeverityMask, recordSize, recordOf, recordsIn, Head}
 use Rattle.wire.specs.Refusals.{row}
 use Rattle.wire.specs.declared.refusal.Refusal.{Refusal}
 use Rattle.dtc.specs.Status.{codeOf}
@@ -52,3 +52,7 @@ pub record Held (f : paper.SubFunction) (n : ℕ) (s : List ℕ) : Type 0 where
 -- which stand after the mask
 abbrev pub recordsOf : paper.SubFunction → ℕ → List ℕ → List paper.Listed
 recordsOf f n s = recordsIn f n (drop 3 s)
+
+-- the record at place k
+abbrev pub recordHere : paper.SubFunction → List ℕ → ℕ → paper.Listed
+recordHere f s k = recordOf f (drop (recordSize f * k) (drop 3 s))

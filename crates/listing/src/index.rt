@@ -14,12 +14,12 @@ ghost use Rattle.paper.specs.Choice.{pick};
 ghost use Rattle.paper.specs.Listing.{recordSize, recordOf, readListing, howMany, firstWith, indexOf, sameNumbers, ownIndex, find, lookUp};
 ghost use Rattle.dtc.specs.Status.{codeOf};
 ghost use Rattle.listing.specs.Listing.{subOf, Stands, Held, recordsOf};
-ghost use Rattle.listing.specs.Index.{numbersIn, IndexedRight, lookSaid};
+ghost use Rattle.listing.specs.Index.{numbersIn, HasIndex, IndexedRight, lookSaid};
 
 // Counts and first places, by high byte.
-struct Index {
-    counts: [u32; 256],
-    firsts: [u32; 256],
+pub(crate) struct Index {
+    pub(crate) counts: [u32; 256],
+    pub(crate) firsts: [u32; 256],
 }
 
 // What reading the listing says, and its index: all zeros beside a refusal.
@@ -46,7 +46,7 @@ fn high_in(sub: SubFunction, s: &[u8], k: usize) -> usize
 }
 
 // The index of the n records of a listing, in one pass.
-fn index_records(sub: SubFunction, s: &[u8], n: usize) -> Index
+pub(crate) fn index_records(sub: SubFunction, s: &[u8], n: usize) -> Index
     requires { ⌜ Held (subOf sub) n (now s) ⌝ }
     ensures { λ r. ⌜ numbersIn (r .counts) (r .firsts) ≡ indexOf (recordsOf (subOf sub) n (now (s .entry))) ⌝ }
 {
@@ -156,6 +156,22 @@ fn search_from(
     LookUpAnswer::Refused(Refusal::NoSuchCode)
 }
 
+// The first record that has the code, or 16: counts and first places are the listing's own.
+pub(crate) fn find_by(
+    sub: SubFunction,
+    s: &[u8],
+    n: usize,
+    counts: &[u32],
+    firsts: &[u32],
+    code: DtcRecord,
+) -> LookUpAnswer
+    requires { ⌜ HasIndex (subOf sub) n (now s) (now counts) (now firsts) ⌝ }
+    ensures { λ r. ⌜ lookSaid r ≡ find 0 (codeOf code) (recordsOf (subOf sub) n (now (s .entry))) ⌝ }
+{
+    let h = code.high_byte() as usize;
+    search_from(sub, s, n, code, firsts[h] as usize, counts[h])
+}
+
 // The first record that has the code. The refusals are those of reading, then 11 for counts and first places that are not this listing's own, then 16 exactly if
 // no record has the code. Every lookup makes the index anew to compare it: an index of another listing would find another record.
 pub fn look_up(
@@ -174,6 +190,5 @@ pub fn look_up(
     if !owns(sub, s, records, counts, firsts) {
         return LookUpAnswer::Refused(Refusal::OutOfRange { place: 0 });
     }
-    let h = code.high_byte() as usize;
-    search_from(sub, s, records, code, firsts[h] as usize, counts[h])
+    find_by(sub, s, records, counts, firsts, code)
 }

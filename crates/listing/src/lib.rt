@@ -1,5 +1,6 @@
 // Trouble-code listings, the answer to ISO 14229-1 ReadDTCInformation: read, written, and with an index beside them. Document 02 asks for them; the original has none.
 // A listing stays in its message: the answer byte, the sub-function and the availability mask, then the records, one after the other. The sub-function says in which of two forms they are.
+pub mod changes;
 pub mod index;
 pub mod write;
 
@@ -156,7 +157,7 @@ fn six_at(s: &[u8], at: usize) -> Listed
 }
 
 // The record at a place of the message that has one there.
-fn record_in(sub: SubFunction, s: &[u8], k: usize) -> Listed
+pub(crate) fn record_in(sub: SubFunction, s: &[u8], k: usize) -> Listed
     requires { ⌜ Stands (subOf sub) k (now s) ⌝ }
     ensures { λ r. ⌜ listedOf r ≡ recordOf (subOf sub) (drop (recordSize (subOf sub) * k) (drop 3 (now (s .entry)))) ⌝ }
 {
