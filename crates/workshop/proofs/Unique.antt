@@ -8,6 +8,10 @@ use borrow.Fn.Kinds.{endedOf}
 use borrow.Fn.World.{ArgsD}
 use Rattle.wire.proofs.Unique.{Determined}
 use Rattle.station.specs.declared.records.WrittenRecord.{WrittenRecord}
+use Rattle.workshop.specs.declared.changes.ChangesRecord.{ChangesRecord}
+use Rattle.workshop.proofs.changes.skr_listing_changes as listing-changes
+use Rattle.workshop.proofs.changes.skr_listing_changes.Kinds as listing-changes-kinds
+use Rattle.workshop.proofs.changes.skr_listing_changes.Reads as listing-changes-reads
 use Rattle.workshop.proofs.listings.skr_read_listing.Kinds as read-listing-kinds
 use Rattle.workshop.proofs.listings.skr_read_listing.Reads as read-listing-reads
 use Rattle.workshop.proofs.listings.skr_listing_record.Kinds as listing-record-kinds
@@ -63,3 +67,8 @@ export-listing-determined κs a x y r s p q = (p .0 ∙ sym (q .0), p .1 ∙ sym
 pub import-listing-determined : (κs : Lfts 2) (a : ArgsD import-listing.signature κs) (x y : AtExit (endedOf 2 import-listing-kinds.ps import-listing-kinds.r) κs) (r s : WrittenRecord)
     → import-listing-reads.Post κs a r x → import-listing-reads.Post κs a s y → (r ≡ s) × (now (x .1 .1 .0) ≡ now (y .1 .1 .0))
 import-listing-determined κs a x y r s p q = (p .0 ∙ sym (q .0), p .1 ∙ sym (q .1))
+
+-- ---- the comparison: the same
+pub listing-changes-determined : (κs : Lfts 3) (a : ArgsD listing-changes.signature κs) (x y : AtExit (endedOf 3 listing-changes-kinds.ps listing-changes-kinds.r) κs) (r s : ChangesRecord)
+    → listing-changes-reads.Post κs a r x → listing-changes-reads.Post κs a s y → (r ≡ s) × (now (x .1 .1 .1 .1 .0) ≡ now (y .1 .1 .1 .1 .0))
+listing-changes-determined κs a x y r s p q = (p .0 ∙ sym (q .0), p .1 ∙ sym (q .1))
