@@ -2,13 +2,14 @@
  * every input.
  *
  * A slice is a pointer and then a length; an empty slice may have any pointer. No function keeps a pointer, and no
- * function but a writer, or one that fills a list, changes a byte of what it is lent. Two slices that are lent to one call
- * must not overlap.
+ * function but a writer, or one that fills a list, changes a byte of what it is lent. A slice that is written into must not
+ * overlap another one that is lent to the same call.
  *
  * Every record that is answered begins with three numbers: 0, 0, 0 where the call was accepted, else the number of the refusal
  * and the two values that it carries (docs/REFUSALS.md). After a refusal every other field is 0, but for the state of a recorded
- * transfer, for the field and the offset where it is asked why a message is refused, and for the count of a joined buffer that
- * is taken apart. A kind or a sub-function that does not exist is refused before anything else is looked at.
+ * transfer, for the field and the offset where it is asked why a message is refused, for the count of a joined buffer that is
+ * taken apart, and for which of two listings is refused. A kind or a sub-function that does not exist is refused before anything
+ * else is looked at.
  *
  * Refusal 2 for a name that is not UTF-8 says where the name goes bad: `first` is the length, in bytes of the name, of its
  * longest beginning that is UTF-8 (what skr_valid_up_to answers). For whatever is too long it is 0.
@@ -156,6 +157,24 @@ typedef struct {
     uint64_t number, first, second;
     uint64_t place, known, severity, unit, high, middle, low, status;
 } skr_found;
+
+/* What changed between two listings: `written` is how many bytes the entries have, six each. `which` is 1 where the first
+ * listing is refused, 2 where the second is, and 0 where neither is. */
+typedef struct {
+    uint64_t number, first, second;
+    uint64_t which, written;
+} skr_changes;
+
+/* What became of a code: it is gone, its record differs, or it is new. */
+enum { SKR_GONE = 1, SKR_DIFFERS = 2, SKR_NEW = 3 };
+
+/* An entry as it is written, six bytes. The status that is missing, the new one of what is gone and the old one of what is new,
+ * is 0. */
+typedef struct {
+    uint8_t change, high, middle, low, old_status, new_status;
+} skr_change;
+
+static_assert(sizeof(skr_change) == 6, "an entry is written as six bytes");
 
 /* Reads a file transfer request from the start of the message. */
 skr_file_transfer skr_read_request(const uint8_t *message, size_t message_len);
@@ -313,6 +332,16 @@ skr_written skr_export_listing(uint8_t sub, const uint8_t *listing, size_t listi
  * with the place, in the whole text, of the first character that cannot stand there, line feeds counted, and the end of the text
  * where it ends within a line; 12 for more than 4,096 lines; 7. */
 skr_written skr_import_listing(uint8_t mask, const uint8_t *text, size_t text_len, uint8_t *room, size_t room_len);
+
+/* What changed between two listings, each of 0x02 or of 0x08. Writes an entry for each code that is gone or whose record
+ * differs, in the first listing's order, and then for each that is new, in the second's; an array `skr_change list[N]` is lent
+ * as `(uint8_t *)list, sizeof list`. A record differs by its status, its severity or its functional unit, and an unknown
+ * severity differs from a known one, so that both statuses of an entry may be equal; availability masks are not compared.
+ * Refusals: those of skr_read_listing for the first listing, then 17 with the place of its first record whose code stood before
+ * it; the same for the second; 7, in bytes. */
+skr_changes skr_listing_changes(uint8_t first_sub, const uint8_t *first, size_t first_len,
+                                uint8_t second_sub, const uint8_t *second, size_t second_len,
+                                uint8_t *room, size_t room_len);
 
 #ifdef __cplusplus
 }

@@ -1,4 +1,4 @@
-/* One fault at a time in front of the library, to see that the comparison finds it: SKROLVIND_FAULT is its number, 1 to 125; with 0 there is none.
+/* One fault at a time in front of the library, to see that the comparison finds it: SKROLVIND_FAULT is its number, 1 to 139; with 0 there is none.
  * Each function calls the library's own, which `try` has given the prefix real_, and spoils the answer. `try` counts the lines that have FAULT ==. */
 #include <stdlib.h>
 #include <string.h>
@@ -344,3 +344,43 @@ DOOR(skr_written, skr_import_listing, (uint8_t k, const uint8_t *t, size_t n, ui
      if (FAULT == 124 && w.number == 18 && place >= 12 && rn > 6) r[0] = 0x59; /* a line is written before the next one is judged */
      if (FAULT == 125 && !w.number && w.written > 3) r[2] = 0xFF;           /* the availability mask is not the importer's */
      return w;)
+
+/* Brings the entries of one sort to the front, each part in its order. */
+static void first_those(uint8_t change, uint8_t *r, uint64_t n) {
+    uint64_t at = 0;
+    for (int turn = 0; turn < 2; turn++)
+        for (uint64_t i = 0; i < n; i += 6) if ((r[i] == change) == !turn) { memcpy(other + at, r + i, 6); at += 6; }
+    memcpy(r, other, n);
+}
+
+/* Leaves out the entries that differ with equal statuses, where `all` or else where no severity is known but 0; answers how many bytes are left. */
+static uint64_t left_out(bool all, uint8_t *r, uint64_t n, uint8_t s, const uint8_t *m, size_t mn) {
+    uint64_t kept = 0;
+    skr_index own = real_skr_listing_index(s, m, mn);
+    for (uint64_t i = 0; i < n; i += 6) {
+        skr_found f = real_skr_listing_lookup(s, m, mn, own.counts, 256, own.firsts, 256, r[i + 1], r[i + 2], r[i + 3]);
+        if (r[i] != 2 || r[i + 4] != r[i + 5] || (!all && (!f.known || f.severity || f.unit))) { memmove(r + kept, r + i, 6); kept += 6; }
+    }
+    return kept;
+}
+
+DOOR(skr_changes, skr_listing_changes,
+     (uint8_t s, const uint8_t *m, size_t n, uint8_t t, const uint8_t *k, size_t o, uint8_t *r, size_t rn),
+     skr_changes c = real_skr_listing_changes(s, m, n, t, k, o, r, rn);
+     skr_changes alone = real_skr_listing_changes(t, k, o, t, k, o, r, 0);
+     skr_listing second = real_skr_read_listing(t, k, o);
+     if (FAULT == 126 && c.number) c.which = 0;                             /* which listing is refused is not told */
+     if (FAULT == 127 && c.which == 1 && alone.number) { c = alone; c.which = 2; } /* the second listing is judged first */
+     if (FAULT == 128 && c.number == 17 && c.which == 1 && second.number) { c.number = second.number; c.first = second.first; c.second = second.second; c.which = 2; } /* 17 of the first behind what reading refuses of the second */
+     if (FAULT == 129 && c.number == 17) c.first -= 1;                      /* 17 tells the record before */
+     if (FAULT == 130 && c.number == 17) { c.number = 0; c.first = 0; c.which = 0; } /* a code that stands twice is passed over */
+     if (FAULT == 131 && c.number == 17 && c.which == 2 && !rn) { c.number = 7; c.first = 6; c.which = 0; } /* 7 before 17 */
+     if (FAULT == 132 && !c.number) c.written = left_out(true, r, c.written, s, m, n); /* records are compared by their status alone */
+     if (FAULT == 133 && !c.number && s == 0x08 && t == 0x02) c.written = left_out(false, r, c.written, s, m, n); /* an unknown severity equals one of 0 */
+     if (FAULT == 134 && !c.number) first_those(1, r, c.written);           /* what is gone stands before what differs */
+     if (FAULT == 135 && !c.number) first_those(3, r, c.written);           /* what is new stands first */
+     if (FAULT == 136 && !c.number) for (uint64_t i = 0; i < c.written; i += 6) if (r[i] == 1) r[i + 5] = r[i + 4]; /* what is gone keeps its status */
+     if (FAULT == 137 && c.number == 7) { c.first /= 6; c.second /= 6; }    /* 7 counts entries, not bytes */
+     if (FAULT == 138 && c.number == 7 && rn >= 6) r[0] = 1;                /* an entry is written before the room is judged */
+     if (FAULT == 139 && !c.number && c.written && m[2] == k[2]) c.written -= 6; /* the last entry is lost where the masks are equal */
+     return c;)

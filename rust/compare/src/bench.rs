@@ -12,8 +12,8 @@ use std::hint::black_box;
 const PLENTY: usize = 66_000;
 /// Bytes before the room and as many behind it, which nobody may touch.
 const AROUND: usize = 16;
-/// What is refused though its room is ample, an over-long part, a fault in a long name, a record of a listing or a line, is tried in
-/// plenty of room too.
+/// What is refused though its room is ample, an over-long part, a fault in a long name, in a long listing or its text, is tried in plenty
+/// of room too.
 const SHORT: usize = 255;
 
 pub struct Bench {
@@ -144,7 +144,8 @@ impl Bench {
             Err(refusal) => {
                 self.in_room(writer, wanted, rule, 0);
                 self.in_room(writer, wanted, rule, 40);
-                let ample = refusal.number == 2 || matches!(rule, Some(Rule::Listing | Rule::Text));
+                let ours = [Rule::Listing, Rule::Text, Rule::Changes].map(Some);
+                let ample = refusal.number == 2 || ours.contains(&rule);
                 if ample && writer.bytes.len() > SHORT {
                     self.in_room(writer, wanted, rule, PLENTY);
                 }

@@ -4,6 +4,8 @@
 //! the original's answer. Where document 01 lists an exception, its own rule takes the original's place, and that is counted apart.
 mod batch;
 mod bench;
+mod change_model;
+mod changes;
 mod desk;
 mod expected;
 mod grid;
@@ -89,6 +91,10 @@ fn main() {
     step(b, "texts that are no code", texts::code_faults);
     step(b, "listings as text", texts::listings);
     step(b, "texts that are no listing", texts::listing_faults);
+    step(b, "changes in up to 3 records", changes::short);
+    step(b, "listings that are not compared", changes::refused);
+    step(b, "listings with a code twice", changes::repeated);
+    step(b, "changes in long listings", changes::long);
     if !arguments.quick {
         step(b, "all messages of up to 3 bytes", sweep::short_messages);
         step(b, "messages of 4 to 7 chosen bytes", sweep::chosen_messages);
@@ -122,6 +128,7 @@ fn random_rounds(bench: &mut Bench, seed: u64, end: Instant) {
     let mut messages = Rng::new(seed ^ 0x7F);
     let mut listed = Rng::new(seed.rotate_left(32) ^ 9);
     let mut lines = Rng::new(seed.rotate_left(32) ^ 12);
+    let mut changed = Rng::new(seed.rotate_left(32) ^ 11);
     loop {
         random::round(bench, &mut rng);
         replays::round(bench, &mut logs);
@@ -130,6 +137,7 @@ fn random_rounds(bench: &mut Bench, seed: u64, end: Instant) {
         message::round(bench, &mut messages);
         listings::round(bench, &mut listed);
         texts::round(bench, &mut lines);
+        changes::round(bench, &mut changed);
         if let Some(recorder) = &mut bench.recorder {
             recorder.end();
         }

@@ -2,7 +2,7 @@
 use crate::bench::Bench;
 use crate::report::agree;
 use crate::tally::{Call, Rule};
-use skrolvind::flat::{self, Written, c};
+use skrolvind::flat::{self, c};
 use std::fmt::Debug;
 use std::ptr::{null, null_mut};
 
@@ -100,6 +100,7 @@ fn readers(bench: &mut Bench) {
     );
     listings(bench);
     texts(bench);
+    changes(bench);
 }
 
 fn listings(bench: &mut Bench) {
@@ -150,6 +151,20 @@ fn listings(bench: &mut Bench) {
             c::skr_export_listing(sub, one.as_ptr(), len, r, k)
         });
     }
+}
+
+fn changes(bench: &mut Bench) {
+    let one = [0x59, 0x02, 0xFF, 0x03, 0x01, 0x11, 0x2F];
+    let (listing, len, empty) = (one.as_ptr(), one.len(), 3);
+    writer(bench, Call::ListingChanges, |p, n, r, k| unsafe {
+        c::skr_listing_changes(0x02, p, n, 0x08, p, n, r, k)
+    });
+    writer(bench, Call::ListingChanges, |p, n, r, k| unsafe {
+        c::skr_listing_changes(0x02, listing, len, 0x02, p, n, r, k)
+    });
+    writer(bench, Call::ListingChanges, |_, _, r, k| unsafe {
+        c::skr_listing_changes(0x02, listing, len, 0x02, listing, empty, r, k)
+    });
 }
 
 fn texts(bench: &mut Bench) {
@@ -235,10 +250,10 @@ fn routines(bench: &mut Bench, sub_function: u8) {
 }
 
 /// A writer that is lent a part or none, and a room or none: what is empty has a null pointer, or another one.
-fn writer(
+fn writer<T: PartialEq + Debug>(
     bench: &mut Bench,
     call: Call,
-    write: impl Fn(*const u8, usize, *mut u8, usize) -> Written,
+    write: impl Fn(*const u8, usize, *mut u8, usize) -> T,
 ) {
     for (part, room) in [(0, 0), (0, ROOM), (PART.len(), 0)] {
         let wanted = lent(&write, (part, false), (room, false));
@@ -256,11 +271,11 @@ fn writer(
 }
 
 /// What the writer answers and what it leaves in the room, each slice with its length and whether its pointer is null.
-fn lent(
-    write: &impl Fn(*const u8, usize, *mut u8, usize) -> Written,
+fn lent<T>(
+    write: &impl Fn(*const u8, usize, *mut u8, usize) -> T,
     (part, null_part): (usize, bool),
     (room, null_room): (usize, bool),
-) -> (Written, [u8; ROOM]) {
+) -> (T, [u8; ROOM]) {
     let mut contents = [FILLER; ROOM];
     let part_pointer = if null_part { null() } else { PART.as_ptr() };
     let room_pointer = if null_room {

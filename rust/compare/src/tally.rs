@@ -40,9 +40,10 @@ pub enum Call {
     ReadCodeText,
     ExportListing,
     ImportListing,
+    ListingChanges,
 }
 
-const CALLS: [&str; 36] = [
+const CALLS: [&str; 37] = [
     "requests read",
     "responses read",
     "routine requests read",
@@ -79,6 +80,7 @@ const CALLS: [&str; 36] = [
     "codes read as text",
     "listings exported as text",
     "listings imported from text",
+    "changes between two listings",
 ];
 
 /// What no door leads to, in the order of the letters that the recorded list has for it.
@@ -162,9 +164,10 @@ pub enum Rule {
     WholeMessage,
     Listing,
     Text,
+    Changes,
 }
 
-const RULES: [&str; 17] = [
+const RULES: [&str; 18] = [
     "size width 0 or 17 up: refusal 6 with the width",
     "routine request refused with 4: the byte is the low seven bits",
     "too little room: refusal 7, and nothing is written",
@@ -182,6 +185,7 @@ const RULES: [&str; 17] = [
     "whole messages: document 02's, behind the service byte 01's",
     "listings, indexes and lookups: ours, as document 02 has them",
     "codes and listings as text: ours, as document 02 has them",
+    "changes between two listings: ours, as document 02 has them",
 ];
 
 impl Rule {

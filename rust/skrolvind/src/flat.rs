@@ -247,6 +247,17 @@ pub const fn record_bytes(records: &[CodeRecord]) -> &[u8] {
     unsafe { core::slice::from_raw_parts(bytes, size_of_val(records)) }
 }
 
+/// What changed between two listings: how many bytes of entries there are, and beside a refusal which listing it is.
+#[repr(C)]
+#[derive(Clone, Copy, Debug, Default, PartialEq, Eq)]
+pub struct Changes {
+    pub number: u64,
+    pub first: u64,
+    pub second: u64,
+    pub which: u64,
+    pub written: u64,
+}
+
 /// The two sizes of a message to be written, in halves.
 #[derive(Clone, Copy, Debug, Default, PartialEq, Eq)]
 pub struct Sizes {
@@ -272,8 +283,8 @@ impl Sizes {
 /// The C functions themselves, over pointers: for those who have to hand over what no slice can be.
 pub mod c {
     use super::{
-        Batch, Desk, FileTransfer, Found, Head, Index, Listed, Message, NextTroubleCode, Replay,
-        Routine, Split, Tally, TroubleCode, Why, Written,
+        Batch, Changes, Desk, FileTransfer, Found, Head, Index, Listed, Message, NextTroubleCode,
+        Replay, Routine, Split, Tally, TroubleCode, Why, Written,
     };
 
     unsafe extern "C" {
@@ -463,6 +474,16 @@ pub mod c {
             room: *mut u8,
             room_len: usize,
         ) -> Written;
+        pub fn skr_listing_changes(
+            first_sub: u8,
+            first: *const u8,
+            first_len: usize,
+            second_sub: u8,
+            second: *const u8,
+            second_len: usize,
+            room: *mut u8,
+            room_len: usize,
+        ) -> Changes;
     }
 }
 
@@ -818,4 +839,14 @@ pub fn import_listing(mask: u8, text: &[u8], room: &mut [u8]) -> Written {
     let (r, r_len) = (room.as_mut_ptr(), room.len());
     // SAFETY: each pointer stands with its own slice's length, and the two slices do not overlap.
     unsafe { c::skr_import_listing(mask, t, t_len, r, r_len) }
+}
+
+/// `skr_listing_changes`; each listing stands behind its sub-function.
+#[inline]
+pub fn listing_changes(first: (u8, &[u8]), second: (u8, &[u8]), room: &mut [u8]) -> Changes {
+    let (a_sub, a, a_len) = (first.0, first.1.as_ptr(), first.1.len());
+    let (b_sub, b, b_len) = (second.0, second.1.as_ptr(), second.1.len());
+    let (r, r_len) = (room.as_mut_ptr(), room.len());
+    // SAFETY: each pointer stands with its own slice's length, and none of the other two overlaps the room.
+    unsafe { c::skr_listing_changes(a_sub, a, a_len, b_sub, b, b_len, r, r_len) }
 }

@@ -17,6 +17,7 @@
 #![warn(missing_docs)]
 
 mod batch;
+mod changes;
 pub mod flat;
 mod joined;
 mod listing;
@@ -31,6 +32,7 @@ mod types;
 mod write;
 
 pub use batch::*;
+pub use changes::*;
 pub use joined::*;
 pub use listing::*;
 pub use message::*;

@@ -426,12 +426,11 @@ fn a_refusal_and_a_reason_print_their_meaning() {
     let why = why_request(&[7, 0, 2, 0x61]).unwrap_err();
     assert_eq!(std::format!("{why}"), std::format!("name at 1: {text}"));
     // each number has a meaning of its own
-    let numbers = (0..=16).chain([18]);
-    let mut meanings: Vec<_> = numbers.map(|n| refusal(n, 0, 0).meaning()).collect();
+    let mut meanings: Vec<_> = (0..=18).map(|n| refusal(n, 0, 0).meaning()).collect();
     assert_eq!(meanings[0], refusal(99, 0, 0).meaning());
     meanings.sort_unstable();
     meanings.dedup();
-    assert_eq!(meanings.len(), 18);
+    assert_eq!(meanings.len(), 19);
 }
 
 const LISTING: [u8; 15] = [
@@ -671,6 +670,88 @@ fn texts_that_are_no_listing() {
     let mut room = vec![0; 3 + 4 * 4096];
     let full = import_listing(0xFF, lines(4096).as_bytes(), &mut room);
     assert_eq!(full, Ok(16_387));
+}
+
+#[test]
+fn changes_between_listings() {
+    let before = [
+        0x59, 0x02, 0xFF, 0x03, 0x01, 0x11, 0x2F, 0xC1, 0x00, 0x00, 0x08, 0x44, 0x00, 0x00, 0x09,
+    ];
+    let after = [
+        0x59, 0x02, 0x7F, 0x81, 0x01, 0x00, 0x01, 0x44, 0x00, 0x00, 0x09, 0xC1, 0x00, 0x00, 0x2F,
+        0x80, 0x00, 0x00, 0x02,
+    ];
+    let plain = ListingSub::ByStatusMask;
+    let [first, second] = [&before[..], &after].map(|m| Listing::read(plain, m).unwrap());
+    let mut room = [0xAA; 25];
+    let changes = first.changes(&second, &mut room).unwrap();
+    assert_eq!(changes.len(), 4);
+    let (a, b) = (code(0x03, 0x01, 0x11), code(0xC1, 0, 0));
+    let (c, d) = (code(0x81, 0x01, 0), code(0x80, 0, 0));
+    let wanted = [
+        Change::Gone { code: a, old: 0x2F },
+        Change::Differs {
+            code: b,
+            old: 0x08,
+            new: 0x2F,
+        },
+        Change::New { code: c, new: 0x01 },
+        Change::New { code: d, new: 0x02 },
+    ];
+    assert_eq!(changes.collect::<Vec<_>>(), wanted);
+    assert_eq!(room[..6], [1, 0x03, 0x01, 0x11, 0x2F, 0]);
+    assert_eq!(room[24], 0xAA);
+    // the mask alone is no change
+    let mut masked = before;
+    masked[2] = 0;
+    let masked = Listing::read(plain, &masked).unwrap();
+    assert_eq!(first.changes(&masked, &mut []).unwrap().len(), 0);
+}
+
+#[test]
+fn a_severity_that_becomes_known_is_a_change() {
+    let plain = Listing::read(ListingSub::ByStatusMask, &LISTING[..11]).unwrap();
+    let rated = Listing::read(ListingSub::BySeverityMask, &RATED[..15]).unwrap();
+    for (first, second) in [(plain, rated), (rated, plain)] {
+        let mut room = [0; 12];
+        let changes = first.changes(&second, &mut room).unwrap();
+        let same = |code, status| Change::Differs {
+            code,
+            old: status,
+            new: status,
+        };
+        let wanted = [same(code(3, 1, 0x11), 0x2F), same(code(0xC1, 0, 0), 0x08)];
+        assert_eq!(changes.collect::<Vec<_>>(), wanted);
+    }
+}
+
+#[test]
+fn listings_that_are_not_compared() {
+    let twice = Listing::read(ListingSub::ByStatusMask, &LISTING).unwrap();
+    let good = Listing::read(ListingSub::ByStatusMask, &LISTING[..11]).unwrap();
+    let empty = Listing::read(ListingSub::BySeverityMask, &RATED[..3]).unwrap();
+    for (first, second, number, values, which) in [
+        (twice, twice, 17, (2, 0), Some(Which::First)),
+        (twice, empty, 17, (2, 0), Some(Which::First)),
+        (empty, twice, 17, (2, 0), Some(Which::Second)),
+        (good, empty, 7, (12, 11), None),
+        (empty, good, 7, (12, 11), None),
+    ] {
+        let mut room = [0xAA; 11];
+        let answer = first.changes(&second, &mut room).unwrap_err();
+        let refusal = refusal(number, values.0, values.1);
+        assert_eq!(answer, NotCompared { refusal, which });
+        assert_eq!(room, [0xAA; 11]);
+    }
+    let told = std::format!("{}", empty.changes(&twice, &mut []).unwrap_err());
+    assert!(told.ends_with("(the second listing)"), "{told}");
+    // what reading refuses, of the first listing before the second
+    let cut = flat::listing_changes((0x08, &RATED[..4]), (0x0A, &[]), &mut []);
+    assert_eq!((cut.number, cut.which), (10, 1));
+    let unknown = flat::listing_changes((0x08, &RATED), (0x0A, &[]), &mut []);
+    assert_eq!((unknown.number, unknown.which), (17, 1));
+    let unknown = flat::listing_changes((0x08, &RATED[..15]), (0x0A, &[]), &mut []);
+    assert_eq!((unknown.number, unknown.which), (15, 2));
 }
 
 #[test]

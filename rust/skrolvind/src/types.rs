@@ -33,6 +33,7 @@ impl Refusal {
             14 => "a block has the wrong counter",
             15 => "this service byte, or these first bytes, are none that we have",
             16 => "no record has this code",
+            17 => "a code stands twice in a listing",
             18 => "a character cannot stand where it does, or the text ends early",
             _ => "this number is not known here",
         }

@@ -1,7 +1,10 @@
-//! Listings, and the plain Rust that reading, index and lookup are timed against: the original has none.
+//! Listings, and the plain Rust that reading, index, lookup and changes are timed against: the original has none.
 use skrolvind::TroubleCode;
+use std::collections::HashMap;
 
 pub type Index = ([u32; 256], [u32; 256]);
+/// A listing, and the same some time later.
+pub type Both = (&'static [u8], &'static [u8]);
 
 /// The records of a listing, four bytes each, or nothing where it is refused.
 fn records(message: &[u8]) -> Option<&[[u8; 4]]> {
@@ -50,6 +53,58 @@ pub fn look_up(message: &[u8], kept: &Index, code: TroubleCode) -> Option<usize>
         left -= u32::from(record[0] == code.high);
     }
     None
+}
+
+/// The status of each code, or nothing where a code stands twice.
+fn by_code(records: &[[u8; 4]]) -> Option<HashMap<[u8; 3], u8>> {
+    let mut statuses = HashMap::with_capacity(records.len());
+    for [high, middle, low, status] in records {
+        if statuses.insert([*high, *middle, *low], *status).is_some() {
+            return None;
+        }
+    }
+    Some(statuses)
+}
+
+/// What changed between two listings, by a hash map of each: six bytes an entry, and how many bytes there are.
+pub fn changes(&(first, second): &Both, room: &mut [u8]) -> Option<usize> {
+    let (first, second) = (records(first)?, records(second)?);
+    let (old, new) = (by_code(first)?, by_code(second)?);
+    let (entries, _) = room.as_chunks_mut();
+    let mut entries = entries.iter_mut();
+    let mut count = 0;
+    let mut put = |entry: [u8; 6]| {
+        *entries.next()? = entry;
+        count += entry.len();
+        Some(())
+    };
+    for &[high, middle, low, status] in first {
+        match new.get(&[high, middle, low]) {
+            None => put([1, high, middle, low, status, 0])?,
+            Some(other) if *other != status => put([2, high, middle, low, status, *other])?,
+            Some(_) => {}
+        }
+    }
+    for &[high, middle, low, status] in second {
+        if !old.contains_key(&[high, middle, low]) {
+            put([3, high, middle, low, 0, status])?;
+        }
+    }
+    Some(count)
+}
+
+/// The same listing some time later: of eight codes in a row one is gone, one has another status, and a new one stands behind them.
+pub fn later(message: &[u8]) -> Vec<u8> {
+    let (head, records) = message.split_at(3);
+    let mut all = head.to_vec();
+    for eight in records.chunks(32) {
+        let mut eight = eight.to_vec();
+        eight[15] ^= 0x01;
+        let [high, middle, low, status] = [eight[0], eight[1] | 0x80, eight[2], eight[3]];
+        all.extend(&eight[4..]);
+        all.extend([high, middle, low, status]);
+    }
+    all
 }
 
 /// A listing in which every code stands once, its high bytes taken from `highs` in turn.

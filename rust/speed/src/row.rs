@@ -122,6 +122,32 @@ pub fn read_only<I: Copy + 'static, A: 'static, B: 'static>(
     }
 }
 
+/// A row of an input from which both sides make the same bytes, in a room as long as the input.
+pub fn made_of<I: Copy + 'static>(
+    what: &str,
+    bytes: usize,
+    input: I,
+    (original, port): (
+        impl Fn(&I, &mut [u8]) -> Option<usize> + 'static,
+        impl Fn(&I, &mut [u8]) -> Option<usize> + 'static,
+    ),
+) -> Row {
+    let (original, port) = (writing(input, original), writing(input, port));
+    let made = |call: &dyn Fn(u64, &mut [u8]) -> Option<usize>, filler| {
+        let mut room = vec![filler; bytes];
+        let count = call(1, &mut room)?;
+        Some(room[..count].to_vec())
+    };
+    let (a, b) = (made(&original, 0), made(&port, 0xFF));
+    must_agree(what, a.is_some() && a == b);
+    Row {
+        what: what.to_owned(),
+        bytes,
+        reading: Sides::new(original, port),
+        writing: None,
+    }
+}
+
 /// A row of a message that is read, and of which each side writes anew what it has read.
 pub fn read_and_written<A: 'static, B: 'static, E: Debug + 'static, F: Debug + 'static>(
     what: &str,

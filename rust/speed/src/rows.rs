@@ -2,7 +2,7 @@
 use crate::batch::{self, List, Morning};
 use crate::listing;
 use crate::messages::{self, TEXTS, Text, name};
-use crate::row::{Codec, Row, read_and_written, read_only};
+use crate::row::{Codec, Row, made_of, read_and_written, read_only};
 use crate::same::{self, Read};
 use crate::sheet;
 use oracle::itself::{
@@ -59,6 +59,7 @@ pub fn rows() -> Vec<Row> {
     for highs in [256, 1] {
         rows.extend(indexed(highs, listing::message(4096, highs)));
     }
+    rows.extend([256, 1].map(changed));
     rows
 }
 
@@ -298,4 +299,22 @@ fn indexed(highs: usize, message: Vec<u8>) -> [Row; 2] {
             |a, b| a.is_some() && a == b,
         ),
     ]
+}
+
+/// What changed, and how many bytes there are.
+fn listed_changes(&(before, after): &listing::Both, room: &mut [u8]) -> Option<usize> {
+    let changes = read_listing(before)?.changes(&read_listing(after)?, room);
+    Some(6 * changes.ok()?.len())
+}
+
+/// What changed between a listing with so many high bytes in turn and the same some time later.
+fn changed(highs: usize) -> Row {
+    let before = listing::message(4096, highs);
+    let after = listing::later(&before);
+    made_of(
+        &format!("changes in 4096 records, high bytes: {highs}"),
+        before.len() + after.len(),
+        (&*before.leak(), &*after.leak()),
+        (listing::changes, listed_changes),
+    )
 }
