@@ -7,6 +7,8 @@ use Rattle.wire.proofs.UniqueWriting.{WritesOnce}
 use Rattle.form.specs.Text.{Text, Grew}
 use Rattle.form.proofs.put.Kinds as put-kinds
 use Rattle.form.proofs.put.Reads as put
+use Rattle.form.proofs.put_hex.Kinds as put-hex-kinds
+use Rattle.form.proofs.put_hex.Reads as put-hex
 use Rattle.form.proofs.put_form.Kinds as put-form-kinds
 use Rattle.form.proofs.put_form.Reads as put-form
 
@@ -16,6 +18,9 @@ grew-once p q = let same = p .right ∙ sym (q .right) in (ap Text.long same, ap
 
 pub put-determined : WritesOnce 2 put-kinds.ps put-kinds.r (λ κs x. x .1 .0) put.Post
 put-determined κs a x y r₁ r₂ p q = grew-once p q
+
+pub put-hex-determined : WritesOnce 1 put-hex-kinds.ps put-hex-kinds.r (λ κs x. x .1 .0) put-hex.Post
+put-hex-determined κs a x y r₁ r₂ p q = grew-once p q
 
 pub put-form-determined : WritesOnce 3 put-form-kinds.ps put-form-kinds.r (λ κs x. x .1 .1 .0) put-form.Post
 put-form-determined κs a x y r₁ r₂ p q = grew-once p q

@@ -1,10 +1,12 @@
 // A text put together from left to right. The first `at` bytes of `out` are the text so far; each function adds to them and answers how many they
 // then are. A letter for which `out` has no room is left out.
-ghost use Prim.Native.Nat.{_+_, _-_, _*_, _≤_};
+ghost use mathlib.Core.Path.{_≡_};
+ghost use Prim.Native.Nat.{_+_, _-_, _*_, _≤_, _<_};
 ghost use mathlib.Core.List.{[], _∷_};
 ghost use lib.ListN.{length, drop};
 ghost use Rattle.paper.specs.ReadingProgram.{decimal};
 ghost use Rattle.paper.specs.Form.{firstOf, filledIn};
+ghost use Rattle.paper.specs.MessageProgram.{hexDigit, hexByte};
 ghost use Rattle.form.specs.Text.{Grew};
 
 fn put_letter(letter: u8, out: &mut [u8], at: usize) -> usize
@@ -28,6 +30,21 @@ pub fn put(bytes: &[u8], out: &mut [u8], at: usize) -> usize
         i += 1;
     }
     end
+}
+
+fn hex_digit(n: u8) -> u8
+    requires { ⌜ n < 16 ⌝ }
+    ensures { λ r. ⌜ r ≡ hexDigit n ⌝ }
+{
+    if n < 10 { b'0' + n } else { b'A' + (n - 10) }
+}
+
+// A byte in two digits of sixteen.
+pub fn put_hex(b: u8, out: &mut [u8], at: usize) -> usize
+    ensures { λ r. ⌜ Grew (hexByte b) 2 at (now (out .entry)) r (now (out .exit)) ⌝ }
+{
+    let digits = [hex_digit(b / 16), hex_digit(b % 16)];
+    put(&digits, out, at)
 }
 
 fn put_number(n: u64, out: &mut [u8], at: usize) -> usize

@@ -8,6 +8,7 @@ use crate::transfer::response_normal;
 use ascii_text::put_refused;
 use form::put;
 use form::put_form;
+use form::put_hex;
 use message::negative::NegativeAnswer;
 use message::read::MessageAnswer;
 use message::read::read_message;
@@ -17,12 +18,12 @@ use routine_control::request::RoutineControlRequest;
 use routine_control::response::RoutineControlResponse;
 use wire::write::put_bytes;
 ghost use mathlib.Core.Path.{_≡_};
-ghost use Prim.Native.Nat.{_≤_, _<_};
+ghost use Prim.Native.Nat.{_≤_};
 ghost use lib.ListN.{length};
 ghost use Rattle.io.specs.Counts.{Counts};
 ghost use Rattle.paper.specs.Choice.{pick};
 ghost use Rattle.paper.specs.Answer.{over};
-ghost use Rattle.paper.specs.MessageProgram.{requestText, responseText, hexDigit, hexByte, mark, messageLine};
+ghost use Rattle.paper.specs.MessageProgram.{requestText, responseText, mark, messageLine};
 ghost use Rattle.form.specs.Text.{Grew};
 ghost use Rattle.message_line.specs.Text.{shownOf, requestLine, responseLine, routineRequestLine, routineResponseLine, negativeLine};
 
@@ -168,20 +169,6 @@ fn routine_response(q: RoutineControlResponse, out: &mut [u8]) -> usize
         out,
         0,
     )
-}
-
-fn hex_digit(n: u8) -> u8
-    requires { ⌜ n < 16 ⌝ }
-    ensures { λ r. ⌜ r ≡ hexDigit n ⌝ }
-{
-    if n < 10 { b'0' + n } else { b'A' + (n - 10) }
-}
-
-fn put_hex(b: u8, out: &mut [u8], at: usize) -> usize
-    ensures { λ r. ⌜ Grew (hexByte b) 2 at (now (out .entry)) r (now (out .exit)) ⌝ }
-{
-    let digits = [hex_digit(b / 16), hex_digit(b % 16)];
-    put(&digits, out, at)
 }
 
 fn put_mark(listed: bool, out: &mut [u8], at: usize) -> usize

@@ -49,3 +49,4 @@ pub mod Repeats
 pub mod Changes
 pub mod ChangesVectors
 pub mod ListingPrograms
+pub mod ChangesProgramVectors

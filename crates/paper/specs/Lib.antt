@@ -32,3 +32,4 @@ pub mod Listing
 pub mod Changes
 pub mod CodeText
 pub mod ListingProgram
+pub mod ChangesProgram
