@@ -189,16 +189,15 @@ impl<'a> Listing<'a> {
 
 /// A record from its numbers, in the order in which one is handed over.
 #[inline]
-fn listed(numbers: [u64; 7]) -> Listed {
-    let [known, severity, unit, high, middle, low, status] = numbers.map(as_small);
+fn listed([known, severity, unit, high, middle, low, status]: [u64; 7]) -> Listed {
     Listed::from(CodeRecord {
-        known,
-        severity,
-        unit,
-        high,
-        middle,
-        low,
-        status,
+        known: as_small(known),
+        severity: as_small(severity),
+        unit: as_small(unit),
+        high: as_small(high),
+        middle: as_small(middle),
+        low: as_small(low),
+        status: as_small(status),
     })
 }
 
