@@ -118,3 +118,12 @@ pub fn message(count: usize, highs: usize) -> Vec<u8> {
         .chain((0..count).flat_map(record))
         .collect()
 }
+
+/// The same records in the order of their codes.
+pub fn in_order(message: &[u8]) -> Vec<u8> {
+    let (head, records) = message.split_at(3);
+    let (records, _) = records.as_chunks::<4>();
+    let mut records = records.to_vec();
+    records.sort_unstable();
+    [head, records.as_flattened()].concat()
+}

@@ -59,7 +59,10 @@ pub fn rows() -> Vec<Row> {
     for highs in [256, 1] {
         rows.extend(indexed(highs, listing::message(4096, highs)));
     }
-    rows.extend([256, 1].map(changed));
+    let in_turn = listing::message(4096, 256);
+    rows.push(changed("256, in order", listing::in_order(&in_turn)));
+    rows.push(changed("256", in_turn));
+    rows.push(changed("1", listing::message(4096, 1)));
     rows
 }
 
@@ -307,9 +310,8 @@ fn listed_changes(&(before, after): &listing::Both, room: &mut [u8]) -> Option<u
     Some(6 * changes.ok()?.len())
 }
 
-/// What changed between a listing with so many high bytes in turn and the same some time later.
-fn changed(highs: usize) -> Row {
-    let before = listing::message(4096, highs);
+/// What changed between a listing with these high bytes and the same some time later.
+fn changed(highs: &str, before: Vec<u8>) -> Row {
     let after = listing::later(&before);
     made_of(
         &format!("changes in 4096 records, high bytes: {highs}"),
