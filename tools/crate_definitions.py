@@ -87,7 +87,7 @@ class Definitions:
 
     def is_read_whole(self):
         """Whether every `use` line has the form that is read here."""
-        return all(len(USE.findall(text)) == len(re.findall(r"^(?:pub )?use\b", text, re.M)) for text in self.texts.values())
+        return all(len(USE.findall(text)) == len(re.findall(r"^(?:pub )?use\s", text, re.M)) for text in self.texts.values())
 
     def all_of(self, module):
         """The pieces of a module of this crate, as pairs of a file and a number; none for a module of another."""
