@@ -1,0 +1,5 @@
+pub mod Flats
+pub mod Handing
+pub mod Laws
+pub mod Vectors
+pub mod Unique
