@@ -1,7 +1,7 @@
 -- What is handed over is written where its checks pass, and is refused with their refusal where they do not.
 -- Assumes nothing.
 use Prim.Native.Nat.{ℕ}
-use mathlib.Core.Path.{_≡_, refl, sym, _∙_}
+use mathlib.Core.Path.{_≡_, refl, sym, ap, _∙_}
 use mathlib.Core.List.{List}
 use mathlib.Core.Bool.{Bool, true, false}
 use lib.ListN.{length}
@@ -21,7 +21,7 @@ use Rattle.parts.specs.Handed.{nameHanded, blockLengthHanded}
 -- a name that is good is written after its length
 pub name-passed : (n : List ℕ) {m : ℕ} → accepted m ≡ lengthIn (goodName n) → nameHanded n ≡ countedRun 2 65535 n
 unfolding nameHanded
-name-passed n said = let is = named n said .0 in rw (good-name n n .1 (refl, is), counted-good 2 n (is .short))
+name-passed n said = let is = named n said .0 in ap (λ a. a then accepted (withCount 2 n)) (good-name n n .1 (refl, is)) ∙ sym (counted-good 2 n (is .short))
 
 -- one that is not is refused alike
 pub name-refused : (n : List ℕ) {e : Refusal} → refused e ≡ lengthIn (goodName n) → nameHanded n ≡ refused e
