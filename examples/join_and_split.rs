@@ -5,22 +5,13 @@
 //!     cd rust && cargo run --release --offline --example join_and_split FILE..
 //!
 //! The exit status is 0 where every file has a request, 1 where one is refused, and 2 where a file cannot be read.
-use skrolvind::{Refusal, read_batch, rewrite_request, split_joined};
+use skrolvind::{MOST_MESSAGES, read_batch, rewrite_request, split_joined};
 use std::env;
 use std::fs;
 use std::process::ExitCode;
 
-/// Room for some requests, and as many as one call takes.
+/// Room for some requests.
 const ROOM: usize = 1_000_000;
-const MOST: usize = 4_096;
-
-/// Number and values alone, as the example in C prints them; `{refusal}` would add what it means.
-fn numbers_of(refusal: &Refusal) -> String {
-    format!(
-        "refused {} {} {}",
-        refusal.number, refusal.first, refusal.second
-    )
-}
 
 /// Joins: the request of each file is written behind those that stand there already. Answers how many bytes there are, and whether a file was refused.
 fn join(files: &[Vec<u8>], joined: &mut [u8]) -> (usize, bool) {
@@ -28,12 +19,12 @@ fn join(files: &[Vec<u8>], joined: &mut [u8]) -> (usize, bool) {
     for (file, message) in files.iter().enumerate() {
         print!("file {}: ", file + 1);
         match rewrite_request(message, &mut joined[len..]) {
-            Ok(written) => {
-                println!("{written} bytes behind {len}");
+            Ok((written, tail)) => {
+                println!("{written} bytes behind {len}, left over {}", tail.len());
                 len += written;
             }
             Err(refusal) => {
-                println!("{}", numbers_of(&refusal));
+                println!("{refusal}");
                 refused = true;
             }
         }
@@ -51,21 +42,21 @@ fn main() -> ExitCode {
     let (len, refused) = join(&files, &mut buffer);
     let joined = &buffer[..len];
 
-    let mut lengths = [0; MOST];
+    let mut lengths = [0; MOST_MESSAGES];
     let count = match split_joined(joined, &mut lengths) {
         Ok(count) => count,
         // never, as long as only whole requests were joined, and at most 4,096
         Err(e) => {
-            println!("request {}: {}", e.found, numbers_of(&e.refusal));
+            println!("request {}: {}", e.found, e.refusal);
             return ExitCode::from(1);
         }
     };
     println!("{count} requests in {len} bytes");
 
-    let mut numbers = [0; MOST];
+    let mut numbers = [0; MOST_MESSAGES];
     // never refused: these are the buffer's own lengths
     if let Err(refusal) = read_batch(joined, &lengths[..count], &mut numbers) {
-        println!("{}", numbers_of(&refusal));
+        println!("{refusal}");
         return ExitCode::from(1);
     }
     for (k, (len, number)) in lengths[..count].iter().zip(&numbers).enumerate() {

@@ -7,18 +7,11 @@
  *
  * The exit status is 0 where the listing is accepted, 1 where it is refused, and 2 where the file cannot be read.
  */
-#include <inttypes.h>
-#include <stdio.h>
-
+#include "shared.h"
 #include "skrolvind.h"
 
-/* As many records as a listing has at most; and more bytes than that, so that a listing that is too long is seen to be. */
-enum { BY_SEVERITY = 0x08, MOST = 4096, ROOM = 30000 };
-
-static int print_refusal(uint64_t number, uint64_t first, uint64_t second) {
-    printf("refused %" PRIu64 " %" PRIu64 " %" PRIu64 "\n", number, first, second);
-    return 1;
-}
+/* More bytes than any listing has, so that one that is too long is seen to be. */
+enum { ROOM = 2 * SKR_LONGEST_LISTING };
 
 static void print_record(uint64_t place, const skr_listed *r) {
     printf("record %" PRIu64 ": code %02" PRIx64 " %02" PRIx64 " %02" PRIx64, place, r->high, r->middle, r->low);
@@ -39,25 +32,23 @@ static skr_code_record handed(const skr_listed *r) {
 
 int main(int count, char **words) {
     static uint8_t listing[ROOM], room[ROOM];
-    static skr_code_record urgent[MOST];
-    FILE *file = count == 2 ? fopen(words[1], "rb") : NULL;
-    if (file == NULL) {
+    static skr_code_record urgent[SKR_MOST_LISTED];
+    size_t len = count == 2 ? read_file(words[1], listing, ROOM) : SIZE_MAX, found = 0;
+    if (len == SIZE_MAX) {
         fprintf(stderr, "usage: severities FILE\n");
         return 2;
     }
-    size_t len = fread(listing, 1, ROOM, file), found = 0;
-    fclose(file);
-
-    skr_listing head = skr_read_listing(BY_SEVERITY, listing, len);
-    if (head.number != 0) return print_refusal(head.number, head.first, head.second);
+    skr_listing head = skr_read_listing(SKR_BY_SEVERITY_MASK, listing, len);
+    if (head.number != SKR_ACCEPTED) return print_refusal(head.number, head.first, head.second);
     for (size_t place = 0; place < head.count; place++) {
-        skr_listed r = skr_listing_record(BY_SEVERITY, listing, len, place);
+        skr_listed r = skr_listing_record(SKR_BY_SEVERITY_MASK, listing, len, place);
         print_record(place, &r);
         if (r.severity & SKR_CHECK_IMMEDIATELY) urgent[found++] = handed(&r);
     }
 
-    skr_written w = skr_write_listing(BY_SEVERITY, (uint8_t)head.mask, (const uint8_t *)urgent, found * sizeof *urgent, room, ROOM);
-    if (w.number != 0) return print_refusal(w.number, w.first, w.second); /* never: these are records of 0x08, and the room is ample */
+    skr_written w = skr_write_listing(SKR_BY_SEVERITY_MASK, (uint8_t)head.mask, (const uint8_t *)urgent, found * sizeof *urgent, room, ROOM);
+    if (w.number != SKR_ACCEPTED) /* never: these are records of 0x08, and the room is ample */
+        return print_refusal(w.number, w.first, w.second);
     printf("check immediately: %zu of %" PRIu64 ", a listing of %" PRIu64 " bytes\n", found, head.count, w.written);
     return 0;
 }

@@ -5,13 +5,12 @@
 //!     cd rust && cargo run --release --offline --example severities FILE
 //!
 //! The exit status is 0 where the listing is accepted, 1 where it is refused, and 2 where the file cannot be read.
-use skrolvind::{Listed, Listing, ListingSub, Rating, Refusal, TroubleCode, write_listing};
+use skrolvind::{
+    LONGEST_LISTING, Listed, Listing, ListingSub, Rating, Refusal, TroubleCode, write_listing,
+};
 use std::env;
 use std::fs;
 use std::process::ExitCode;
-
-/// More than any listing has.
-const ROOM: usize = 30_000;
 
 fn told(record: &Listed, rating: &Rating) -> String {
     let TroubleCode { high, middle, low } = record.code;
@@ -53,7 +52,7 @@ fn print(message: &[u8]) -> Result<(), Refusal> {
         }
     }
     let (found, all) = (urgent.len(), listing.len());
-    let mut room = vec![0; ROOM];
+    let mut room = vec![0; LONGEST_LISTING];
     let sub = ListingSub::BySeverityMask;
     let written = write_listing(sub, listing.mask(), &urgent, &mut room)?;
     println!("check immediately: {found} of {all}, a listing of {written} bytes");
@@ -61,19 +60,15 @@ fn print(message: &[u8]) -> Result<(), Refusal> {
 }
 
 fn main() -> ExitCode {
-    let Some(Ok(message)) = env::args_os().nth(1).map(fs::read) else {
+    let files: Result<Vec<_>, _> = env::args_os().skip(1).map(fs::read).collect();
+    let Ok([message]) = files.as_deref() else {
         eprintln!("usage: severities FILE");
         return ExitCode::from(2);
     };
-    match print(&message) {
+    match print(message) {
         Ok(()) => ExitCode::SUCCESS,
-        // number and values alone, as the example in C prints them; `{refusal}` would add what it means
-        Err(Refusal {
-            number,
-            first,
-            second,
-        }) => {
-            println!("refused {number} {first} {second}");
+        Err(refusal) => {
+            println!("{refusal}");
             ExitCode::from(1)
         }
     }

@@ -7,30 +7,15 @@
  *
  * The exit status is 0 where both listings are accepted, 1 where one is refused, and 2 where a file cannot be read.
  */
-#include <inttypes.h>
-#include <stdio.h>
-
+#include "shared.h"
 #include "skrolvind.h"
 
 /* More bytes than any listing has; and as many changes as two of them can have. */
-enum { ROOM = 30000, MOST = 2 * 4096 };
-
-typedef struct {
-    uint8_t bytes[ROOM];
-    size_t len;
-} listing;
-
-static bool read_file(const char *path, listing *l) {
-    FILE *file = fopen(path, "rb");
-    if (file == NULL) return false;
-    l->len = fread(l->bytes, 1, ROOM, file);
-    fclose(file);
-    return true;
-}
+enum { ROOM = 2 * SKR_LONGEST_LISTING, MOST = 2 * SKR_MOST_LISTED };
 
 /* The sub-function that the listing itself names. */
-static uint8_t sub(const listing *l) {
-    return l->len > 1 && l->bytes[1] == 0x08 ? 0x08 : 0x02;
+static uint8_t sub(const uint8_t *listing, size_t len) {
+    return len > 1 && listing[1] == SKR_BY_SEVERITY_MASK ? SKR_BY_SEVERITY_MASK : SKR_BY_STATUS_MASK;
 }
 
 static void print_change(const skr_change *c) {
@@ -43,17 +28,19 @@ static void print_change(const skr_change *c) {
 }
 
 int main(int count, char **words) {
-    static listing before, after;
+    static uint8_t before[ROOM], after[ROOM];
     static skr_change changes[MOST];
-    if (count != 3 || !read_file(words[1], &before) || !read_file(words[2], &after)) {
+    size_t before_len = count == 3 ? read_file(words[1], before, ROOM) : SIZE_MAX;
+    size_t after_len = count == 3 ? read_file(words[2], after, ROOM) : SIZE_MAX;
+    if (before_len == SIZE_MAX || after_len == SIZE_MAX) {
         fprintf(stderr, "usage: what_changed BEFORE AFTER\n");
         return 2;
     }
-    skr_changes made = skr_listing_changes(sub(&before), before.bytes, before.len, sub(&after), after.bytes, after.len,
+    skr_changes made = skr_listing_changes(sub(before, before_len), before, before_len, sub(after, after_len), after, after_len,
                                            (uint8_t *)changes, sizeof changes);
-    if (made.number != 0) {
-        printf("listing %" PRIu64 " refused %" PRIu64 " %" PRIu64 " %" PRIu64 "\n", made.which, made.number, made.first, made.second);
-        return 1;
+    if (made.number != SKR_ACCEPTED) {
+        printf("listing %" PRIu64 ": ", made.which);
+        return print_refusal(made.number, made.first, made.second);
     }
     for (size_t i = 0; i < made.written / sizeof *changes; i++) print_change(&changes[i]);
     return 0;

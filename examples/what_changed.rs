@@ -12,8 +12,8 @@ use std::process::ExitCode;
 /// Reads a listing of the sub-function that it names itself.
 fn read(message: &[u8]) -> Result<Listing<'_>, Refusal> {
     let named = message.get(1).copied().unwrap_or_default();
-    let sub = ListingSub::from_number(named.into());
-    Listing::read(sub.unwrap_or(ListingSub::ByStatusMask), message)
+    let sub = ListingSub::try_from(named).unwrap_or(ListingSub::ByStatusMask);
+    Listing::read(sub, message)
 }
 
 /// Prints a line about each code. A refusal stands beside the number of the listing that is refused.
@@ -44,11 +44,8 @@ fn main() -> ExitCode {
         eprintln!("usage: what_changed BEFORE AFTER");
         return ExitCode::from(2);
     };
-    if let Err((which, r)) = print(before, after) {
-        println!(
-            "listing {which} refused {} {} {}",
-            r.number, r.first, r.second
-        );
+    if let Err((which, refusal)) = print(before, after) {
+        println!("listing {which}: {refusal}");
         return ExitCode::from(1);
     }
     ExitCode::SUCCESS
