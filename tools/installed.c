@@ -55,15 +55,56 @@ static void a_part_is_read_and_written(void) {
     assert(w.number == SKR_ACCEPTED && w.written == 3 && memcmp(room, add_file + 2, 3) == 0);
 }
 
+static void a_loop_over_codes_ends_where_none_is_found(void) {
+    const uint8_t list[] = {3, 1, 0x11, 0xC1, 0, 0, 9};
+    size_t at = 0, count = 0;
+    skr_next_trouble_code code = skr_dtc_next(list, sizeof list);
+    while (code.found) {
+        count++;
+        at += code.tail;
+        code = skr_dtc_next(list + at, sizeof list - at);
+    }
+    assert(count == 2 && at == 6 && code.number == SKR_TOO_SHORT && code.first == 3 && code.second == 1);
+    code = skr_dtc_next(NULL, 0);
+    assert(code.number == SKR_ACCEPTED && !code.found);
+}
+
 static void every_refusal_has_words(void) {
     uint8_t words[SKR_LONGEST_REFUSAL_TEXT];
+    uint64_t longest = 0;
+    for (uint64_t number = SKR_ACCEPTED; number <= SKR_BAD_CHARACTER; number++) {
+        skr_written w = skr_refusal_text(number, words, sizeof words);
+        assert(w.number == SKR_ACCEPTED);
+        if (w.written > longest) longest = w.written;
+    }
+    assert(longest == SKR_LONGEST_REFUSAL_TEXT);
+    assert(skr_refusal_text(SKR_BAD_CHARACTER + 1, words, sizeof words).number == SKR_OUT_OF_RANGE);
     char text[SKR_LONGEST_REFUSAL_TEXT + 1];
-    for (uint64_t number = SKR_ACCEPTED; number <= SKR_BAD_CHARACTER; number++)
-        assert(skr_refusal_text(number, words, sizeof words).number == SKR_ACCEPTED);
     skr_written w = skr_refusal_text(SKR_BAD_WIDTH, words, sizeof words);
     snprintf(text, sizeof text, "%.*s", (int)w.written, (const char *)words);
     assert(strcmp(text, "bad width: a size is 1 to 16 bytes wide") == 0);
-    assert(skr_refusal_text(SKR_BAD_CHARACTER + 1, words, sizeof words).number == SKR_OUT_OF_RANGE);
+}
+
+/* Asked with an empty room, a writer tells how many bytes it needs. */
+static void the_longest_is_what_a_writer_needs(void) {
+    static const uint8_t zeros[SKR_LONGEST_NAME] = {0};
+    const uint64_t most = UINT64_MAX;
+    assert(skr_write_request(SKR_ADD_FILE, zeros, SKR_LONGEST_NAME, 0, most, most, most, most, NULL, 0).first == SKR_LONGEST_REQUEST);
+    assert(skr_write_request_message(SKR_ADD_FILE, zeros, SKR_LONGEST_NAME, 0, most, most, most, most, NULL, 0).first ==
+           SKR_LONGEST_MESSAGE);
+    assert(skr_write_response(SKR_READ_FILE, zeros, SKR_LONGEST_BLOCK_LENGTH, 0, most, most, most, most, most, NULL, 0).first ==
+           SKR_LONGEST_RESPONSE);
+    assert(skr_write_routine_request(false, SKR_STOP_ROUTINE, 0, zeros, SKR_LONGEST_RECORD, NULL, 0).first == SKR_LONGEST_ROUTINE);
+}
+
+static void the_longest_listing_has_the_longest_text(void) {
+    static skr_code_record records[SKR_MOST_LISTED];
+    static uint8_t listing[SKR_LONGEST_LISTING];
+    for (size_t i = 0; i < SKR_MOST_LISTED; i++) records[i].known = 1;
+    skr_written w = skr_write_listing(SKR_BY_SEVERITY_MASK, 0xFF, (const uint8_t *)records, sizeof records, listing, sizeof listing);
+    assert(w.number == SKR_ACCEPTED && w.written == SKR_LONGEST_LISTING);
+    w = skr_export_listing(SKR_BY_SEVERITY_MASK, listing, sizeof listing, NULL, 0);
+    assert(w.number == SKR_NO_ROOM && w.first == SKR_LONGEST_LISTING_TEXT);
 }
 
 int main(void) {
@@ -73,6 +114,9 @@ int main(void) {
     a_request_is_written();
     a_suppress_of_two_is_true();
     a_part_is_read_and_written();
+    a_loop_over_codes_ends_where_none_is_found();
     every_refusal_has_words();
+    the_longest_is_what_a_writer_needs();
+    the_longest_listing_has_the_longest_text();
     return 0;
 }
