@@ -46,7 +46,8 @@ int main(int count, char **words) {
         if (r.severity & SKR_CHECK_IMMEDIATELY) urgent[found++] = handed(&r);
     }
 
-    skr_written w = skr_write_listing(SKR_BY_SEVERITY_MASK, (uint8_t)head.mask, (const uint8_t *)urgent, found * sizeof *urgent, room, ROOM);
+    skr_written w = skr_write_listing(SKR_BY_SEVERITY_MASK, (uint8_t)head.mask, (const uint8_t *)urgent, found * sizeof *urgent,
+                                      room, ROOM);
     if (w.number != SKR_ACCEPTED) /* never: these are records of 0x08, and the room is ample */
         return print_refusal(w.number, w.first, w.second);
     printf("check immediately: %zu of %" PRIu64 ", a listing of %" PRIu64 " bytes\n", found, head.count, w.written);

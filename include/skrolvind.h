@@ -1,6 +1,10 @@
 /* Skrolvind for C: the functions of crates `station`, `archive`, `workshop`, `parts` and `refusal_words`, each proved to do what its
  * contract says on every input. For C11 and for C++11, and for what came after them.
  *
+ *     skr_file_transfer r = skr_read_request(message, message_len);
+ *     if (r.number == SKR_ACCEPTED && r.kind == SKR_ADD_FILE)
+ *         printf("add %.*s\n", (int)r.len, (const char *)message + r.start);
+ *
  * A slice is a pointer and then a length; an empty slice may have any pointer. No function keeps a pointer, and no
  * function but a writer, or one that fills a list, changes a byte of what it is lent. A slice that is written into must not
  * overlap another one that is lent to the same call.
@@ -55,7 +59,8 @@ extern "C" {
 
 /* ---- What is handed out ---- */
 
-/* The numbers of the refusals, and the values `first` and `second` that each carries: what is not told is 0.
+/* The numbers of the refusals, and the values `first` and `second` that each carries: what is not told is 0. skr_refusal_text has
+ * their words.
  *
  * Refusal 2 for a name that is not UTF-8 says where the name goes bad: `first` is the length, in bytes of the name, of its
  * longest beginning that is UTF-8 (what skr_valid_up_to answers). For whatever is too long it is 0. */
@@ -99,7 +104,7 @@ skr_written skr_refusal_text(uint64_t number, uint8_t *room, size_t room_len);
 
 /* ---- File transfer ---- */
 
-/* The kinds of a file transfer message, which are its mode bytes, and what stands behind it in a request and in a response. */
+/* The kinds of a file transfer message. Each is a mode byte; beside it is what stands behind that byte in a request; in a response. */
 enum skr_kind {
     SKR_ADD_FILE = 1,     /* name, format, two sizes; block length, format */
     SKR_DELETE_FILE = 2,  /* name; nothing */
@@ -224,10 +229,10 @@ typedef struct {
 } skr_why;
 
 /* Why a file transfer request is refused: the first check that fails. Every check that comes before it passes. Bytes left over
- * are no reason. */
+ * are no reason: the refusals are those of skr_read_request. */
 skr_why skr_why_request(const uint8_t *message, size_t message_len);
 
-/* Why a file transfer response is refused, likewise. */
+/* Why a file transfer response is refused, likewise, with the refusals of skr_read_response. */
 skr_why skr_why_response(const uint8_t *message, size_t message_len);
 
 /* ---- Names and codes ---- */
@@ -301,7 +306,7 @@ skr_sizes skr_read_sizes(const uint8_t *buffer, size_t buffer_len);
 /* Reads the two sizes of a ReadFile response, likewise, but for their width, which has two bytes. */
 skr_sizes skr_read_file_sizes(const uint8_t *buffer, size_t buffer_len);
 
-/* Reads the one size of a ReadDir response, with a width of two bytes: it stands as the uncompressed, and the compressed is 0. */
+/* Reads the one size of a ReadDir response, likewise: it stands as the uncompressed, and the compressed is 0. */
 skr_sizes skr_read_dir_size(const uint8_t *buffer, size_t buffer_len);
 
 /* Reads the position of a ResumeFile response: eight bytes. Refusal 1. */

@@ -1,4 +1,4 @@
-/* A program that uses the installed header and library and holds what they answer: `tools/install --test` builds and runs it as C and as C++. */
+/* Uses the installed header and library, and holds what they answer: `tools/install --test` builds and runs it as C and as C++. */
 #undef NDEBUG
 #include <assert.h>
 #include <stdio.h>
