@@ -61,7 +61,7 @@ impl Bench {
                     Err(e) => {
                         let ours = [None, Some(Which::First), Some(Which::Second)];
                         let ours = ours.into_iter().position(|which| which == e.which);
-                        let told = which(e.refusal.number) as usize;
+                        let told = which(e.refusal.number()) as usize;
                         agree(said, first.1, &ours, &Some(told));
                         Err(e.refusal)
                     }

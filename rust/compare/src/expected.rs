@@ -1,11 +1,42 @@
 //! The library's records and the binding's answers beside the plain answers: which record an answer has to be, and which answer the
 //! binding gave.
 use crate::model;
+use crate::report::agree;
 use oracle::plain::{FileTransfer, NextCode, Refusal, Routine, place};
 use skrolvind::flat;
 
+/// The numbers of the binding's refusal, by what it is; those that it says itself have to be the same.
 pub fn refusal(r: skrolvind::Refusal) -> Refusal {
-    Refusal::new(r.number, r.first, r.second)
+    use skrolvind::Refusal as R;
+    let (number, first, second) = match r {
+        R::TooShort { needed, available } => (1, needed, available),
+        R::WrongFormat { good } => (2, good, 0),
+        R::UnknownMode(byte) => (3, byte.into(), 0),
+        R::UnknownSubFunction(byte) => (4, byte.into(), 0),
+        R::NoTroubleCode(number) => (5, number as usize, 0),
+        R::BadWidth(width) => (6, width, 0),
+        R::NoRoom { needed, room } => (7, needed, room),
+        R::UnequalSizes => (8, 0, 0),
+        R::LeftOver(count) => (9, count, 0),
+        R::Cut => (10, 0, 0),
+        R::OutOfRange { place } => (11, place, 0),
+        R::TooMany => (12, 0, 0),
+        R::NotAllowed { place } => (13, place, 0),
+        R::WrongCounter { place } => (14, place, 0),
+        R::UnknownService { place } => (15, place, 0),
+        R::NoSuchCode => (16, 0, 0),
+        R::Repeated { place } => (17, place, 0),
+        R::BadCharacter { place } => (18, place, 0),
+        _ => unreachable!("a refusal that is not known here: {r}"),
+    };
+    let refusal = Refusal::new(number, first as u64, second as u64);
+    agree(
+        "the binding says other numbers of a refusal",
+        &[],
+        &Refusal::new(r.number(), r.first(), r.second()),
+        &refusal,
+    );
+    refusal
 }
 
 /// The record of a file transfer message. After a refusal every field but its three is 0.
@@ -135,7 +166,7 @@ pub fn bound_request(message: &[u8]) -> Result<FileTransfer, Refusal> {
     let (read, tail) = skrolvind::read_request(message).map_err(refusal)?;
     Ok(FileTransfer {
         kind: read.kind as u8,
-        start: place(message, read.name),
+        start: place(message, read.name.as_bytes()),
         len: read.name.len(),
         format: read.format,
         uncompressed: read.uncompressed,
@@ -191,7 +222,14 @@ pub fn bound_next(buffer: &[u8]) -> Result<Option<NextCode>, Refusal> {
     }))
 }
 
+pub fn bound_codes(buffer: &[u8]) -> Vec<Result<[u8; 3], Refusal>> {
+    let codes = skrolvind::trouble_codes(buffer);
+    codes
+        .map(|code| code.map_or_else(|r| Err(refusal(r)), |code| Ok(code.into())))
+        .collect()
+}
+
 pub fn bound_code(number: u32) -> Result<[u8; 3], Refusal> {
     let code = skrolvind::trouble_code(number).map_err(refusal)?;
-    Ok([code.high, code.middle, code.low])
+    Ok(code.into())
 }

@@ -21,6 +21,7 @@ mod null;
 mod random;
 mod read;
 mod record;
+mod refusals;
 mod replays;
 mod report;
 mod rng;
@@ -71,6 +72,7 @@ fn main() {
     step(b, "names of 4 and 5 chosen bytes", sweep::names);
     step(b, "trouble-code numbers", sweep::numbers);
     step(b, "requests for the desk", desk::requests);
+    step(b, "words of refusals", refusals::words);
     step(b, "sheets of records", sheets::sheets);
     step(b, "logs of up to 5 chosen records", replays::short_logs);
     step(b, "every record after each state", replays::every_record);

@@ -9,7 +9,7 @@ use crate::{expected, grid, names, random};
 use oracle::items::negative_codes;
 use oracle::plain::{Refusal, place};
 use skrolvind::flat::{self, Message, Written};
-use skrolvind::{Kind, Request, Response, RoutineRequest, RoutineResponse, Service, SubFunction};
+use skrolvind::{Response, Service};
 
 /// File transfer request, routine request, file transfer response, routine response, negative answer.
 const SERVICES: [u8; 5] = [0x38, 0x31, 0x78, 0x71, 0x7F];
@@ -126,7 +126,7 @@ fn bound(message: &[u8]) -> Message {
         Ok(skrolvind::Message::FileRequest(q, tail)) => {
             let response = Response {
                 kind: q.kind,
-                block: q.name,
+                block: q.name.as_bytes(),
                 format: q.format,
                 uncompressed: q.uncompressed,
                 compressed: q.compressed,
@@ -242,16 +242,7 @@ impl Bench {
             flat: |room: &mut [u8]| {
                 flat::write_request_message(t.kind, t.part, t.format, t.flat_sizes(), room)
             },
-            bound: |room: &mut [u8]| {
-                let request = Request {
-                    kind: Kind::from_number(t.kind.into())?,
-                    name: t.part,
-                    format: t.format,
-                    uncompressed,
-                    compressed,
-                };
-                Some(skrolvind::write_request_message(&request, room))
-            },
+            bound: |room: &mut [u8]| Some(skrolvind::write_request_message(&t.request()?, room)),
         };
         self.written_behind(&writer, answer);
     }
@@ -276,30 +267,17 @@ impl Bench {
             flat: |room: &mut [u8]| {
                 flat::write_response_message(kind, t.part, format, t.flat_sizes(), position, room)
             },
-            bound: |room: &mut [u8]| {
-                let response = Response {
-                    kind: Kind::from_number(kind.into())?,
-                    block: t.part,
-                    format,
-                    uncompressed,
-                    compressed,
-                    position,
-                };
-                Some(skrolvind::write_response_message(&response, room))
-            },
+            bound: |room: &mut [u8]| Some(skrolvind::write_response_message(&t.response()?, room)),
         };
         self.written_behind(&writer, answer);
     }
 
     fn whole_routine(&mut self, r: Routine<'_>) {
         let (sub, identifier) = (r.sub_function, r.identifier);
-        let answer = r.by_rule().map_or_else(
-            || {
-                let room = &mut self.plenty;
-                oracle::write_routine_request(r.suppress, sub, identifier, r.record, room)
-            },
-            |(refusal, _)| Err(refusal),
-        );
+        let (answer, _) = r.answered(|| {
+            let room = &mut self.plenty;
+            oracle::write_routine_request(r.suppress, sub, identifier, r.record, room)
+        });
         let writer = Writer {
             call: Call::WriteRoutineRequestMessage,
             kind: 0x31,
@@ -310,20 +288,16 @@ impl Bench {
                 flat::write_routine_request_message(r.suppress, sub, identifier, r.record, room)
             },
             bound: |room: &mut [u8]| {
-                let request = RoutineRequest {
-                    suppress: r.suppress,
-                    sub_function: SubFunction::from_number(sub.into())?,
-                    identifier,
-                    record: r.record,
-                };
-                Some(skrolvind::write_routine_request_message(&request, room))
+                Some(skrolvind::write_routine_request_message(
+                    &r.request()?,
+                    room,
+                ))
             },
         };
         self.written_behind(&writer, answer);
-        let answer = r.by_rule().map_or_else(
-            || oracle::write_routine_response(sub, identifier, r.record, &mut self.plenty),
-            |(refusal, _)| Err(refusal),
-        );
+        let (answer, _) = r.answered(|| {
+            oracle::write_routine_response(sub, identifier, r.record, &mut self.plenty)
+        });
         let writer = Writer {
             call: Call::WriteRoutineResponseMessage,
             kind: 0x71,
@@ -334,12 +308,10 @@ impl Bench {
                 flat::write_routine_response_message(sub, identifier, r.record, room)
             },
             bound: |room: &mut [u8]| {
-                let response = RoutineResponse {
-                    sub_function: SubFunction::from_number(sub.into())?,
-                    identifier,
-                    record: r.record,
-                };
-                Some(skrolvind::write_routine_response_message(&response, room))
+                Some(skrolvind::write_routine_response_message(
+                    &r.response()?,
+                    room,
+                ))
             },
         };
         self.written_behind(&writer, answer);
@@ -360,7 +332,7 @@ impl Bench {
             bytes: &[],
             flat: |room: &mut [u8]| flat::write_negative(service, code, room),
             bound: |room: &mut [u8]| {
-                let service = Service::from_number(service.into())?;
+                let service = Service::try_from(service).ok()?;
                 Some(skrolvind::write_negative(service, code, room))
             },
         };

@@ -21,6 +21,11 @@ pub fn pointers(bench: &mut Bench) {
         routines(bench, sub_function);
     }
     messages(bench);
+    for number in [0, 1, 19] {
+        writer(bench, Call::RefusalText, |_, _, r, k| unsafe {
+            c::skr_refusal_text(number, r, k)
+        });
+    }
     // SAFETY (of every block below): each pointer stands with the length of what it points to, or with the length 0.
     writer(bench, Call::RewriteRequest, |m, n, r, k| unsafe {
         c::skr_rewrite_request(m, n, r, k)

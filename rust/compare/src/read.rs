@@ -7,15 +7,26 @@ use crate::{expected, model, names};
 use oracle::plain::{FileTransfer, Refusal};
 use skrolvind::flat;
 
+/// The trouble codes of a buffer by the original, up to its end or to a refusal.
+fn all_codes(mut buffer: &[u8]) -> Vec<Result<[u8; 3], Refusal>> {
+    let mut codes = vec![];
+    while let Some(next) = oracle::next_trouble_code(buffer).transpose() {
+        codes.push(next.map(|next| next.code));
+        let left = next.map_or(0, |next| next.tail_len);
+        buffer = &buffer[buffer.len() - left..];
+    }
+    codes
+}
+
 impl Bench {
     /// Every call that takes a message.
     pub fn message(&mut self, message: &[u8]) {
         self.watched(message, |bench| {
             let request = bench.request(message);
             bench.desk(message, &request);
-            bench.rewritten_request(message);
-            bench.response(message);
-            bench.rewritten_response(message);
+            bench.rewritten_request(message, &request);
+            let response = bench.response(message);
+            bench.rewritten_response(message, &response);
             bench.routine_request(message);
             bench.routine_response(message);
             bench.why(message);
@@ -49,7 +60,7 @@ impl Bench {
         paper
     }
 
-    fn response(&mut self, message: &[u8]) {
+    fn response(&mut self, message: &[u8]) -> Result<FileTransfer, Refusal> {
         let paper = model::read_response(message);
         let original = oracle::read_response(message);
         let record = expected::transfer(message, &original);
@@ -73,6 +84,7 @@ impl Bench {
         );
         let (rule, sort) = (Rule::of_read(&original), sort(&original, |t| t.kind));
         self.equal(Call::ReadResponse, rule, sort, message, &record);
+        paper
     }
 
     fn routine_request(&mut self, message: &[u8]) {
@@ -225,6 +237,12 @@ impl Bench {
             buffer,
             &expected::bound_next(buffer),
             &original,
+        );
+        agree(
+            "the binding finds other trouble codes, one after the other",
+            buffer,
+            &expected::bound_codes(buffer),
+            &all_codes(buffer),
         );
         let sort = sort(&original, |_| 0);
         self.equal(Call::NextTroubleCode, None, sort, buffer, &record);

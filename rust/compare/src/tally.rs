@@ -23,6 +23,8 @@ pub enum Call {
     ReplayStep,
     WhyRequest,
     WhyResponse,
+    Needed,
+    RefusalText,
     ReadBatch,
     SplitJoined,
     ReadMessage,
@@ -43,7 +45,7 @@ pub enum Call {
     ListingChanges,
 }
 
-const CALLS: [&str; 37] = [
+const CALLS: [&str; 39] = [
     "requests read",
     "responses read",
     "routine requests read",
@@ -63,6 +65,8 @@ const CALLS: [&str; 37] = [
     "records of transfers run",
     "reasons of requests",
     "reasons of responses",
+    "lengths of what is to be written (the binding's)",
+    "words of refusals",
     "batches of requests read",
     "joined requests taken apart",
     "whole messages read",
@@ -159,6 +163,7 @@ pub enum Rule {
     Sheet,
     Replay,
     Why,
+    Words,
     Batch,
     Joined,
     WholeMessage,
@@ -167,7 +172,7 @@ pub enum Rule {
     Changes,
 }
 
-const RULES: [&str; 18] = [
+const RULES: [&str; 19] = [
     "size width 0 or 17 up: refusal 6 with the width",
     "routine request refused with 4: the byte is the low seven bits",
     "too little room: refusal 7, and nothing is written",
@@ -180,6 +185,7 @@ const RULES: [&str; 18] = [
     "sheet of records: ours, as document 02 has it",
     "recorded transfers: ours, as document 02 has them",
     "why a message is refused: document 02's",
+    "words of a refusal: ours, as the binding has them",
     "batches of messages: ours, as document 02 has them",
     "joined requests: ours, as document 02 has them",
     "whole messages: document 02's, behind the service byte 01's",

@@ -1,8 +1,8 @@
 //! Document 02's request 06, as plainly as it stands there: document 01's checks one after the other, and the first that fails names its field and where that begins.
 use crate::bench::Bench;
-use crate::names;
 use crate::report::agree;
 use crate::tally::{Call, Rule};
+use crate::{expected, names};
 use skrolvind::flat::{self, Why};
 use skrolvind::{Reason, why_request, why_response};
 
@@ -100,12 +100,15 @@ fn response(message: &[u8]) -> Checked {
 
 /// The binding's answer as a record.
 fn flattened(answer: Result<(), Reason>) -> Why {
-    answer.err().map_or_else(Why::default, |r| Why {
-        number: r.refusal.number,
-        first: r.refusal.first,
-        second: r.refusal.second,
-        field: r.field as u64,
-        offset: r.offset as u64,
+    answer.err().map_or_else(Why::default, |r| {
+        let refusal = expected::refusal(r.refusal);
+        Why {
+            number: refusal.number,
+            first: refusal.first,
+            second: refusal.second,
+            field: r.field as u64,
+            offset: r.offset as u64,
+        }
     })
 }
 

@@ -20,6 +20,7 @@ use crate::read::accepted;
 /// let mut list = [99; 5];
 /// assert_eq!(read_batch(&buffer, &[5, 0, 4], &mut list)?, 3);
 /// assert_eq!(list, [0, 1, 3, 99, 99]);
+/// assert_eq!(Refusal::meaning_of(list[2].into()), Some("unknown mode: no file operation has this number"));
 /// # Ok::<(), Refusal>(())
 /// ```
 #[inline]

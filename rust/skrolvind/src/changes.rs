@@ -3,6 +3,7 @@ use crate::flat;
 use crate::read::{accepted, as_small};
 use crate::{Listing, Refusal, TroubleCode};
 use core::fmt;
+use core::iter::FusedIterator;
 use core::slice::Iter;
 
 /// What became of a code between two listings.
@@ -69,6 +70,8 @@ impl Iterator for Changes<'_> {
 
 impl ExactSizeIterator for Changes<'_> {}
 
+impl FusedIterator for Changes<'_> {}
+
 /// One of two listings.
 #[derive(Clone, Copy, Debug, PartialEq, Eq, Hash)]
 pub enum Which {
@@ -79,7 +82,7 @@ pub enum Which {
 }
 
 /// Two listings that were not compared.
-#[derive(Clone, Copy, Debug, PartialEq, Eq)]
+#[derive(Clone, Copy, Debug, PartialEq, Eq, Hash)]
 pub struct NotCompared {
     /// The refusal: 17 with the place of the first record whose code stood before it, or 7.
     pub refusal: Refusal,
@@ -126,8 +129,8 @@ impl Listing<'_> {
         room: &'r mut [u8],
     ) -> Result<Changes<'r>, NotCompared> {
         let (first, second) = (
-            (self.sub as u8, self.message),
-            (later.sub as u8, later.message),
+            (self.sub.into(), self.message),
+            (later.sub.into(), later.message),
         );
         let r = flat::listing_changes(first, second, room);
         let which = match r.which {

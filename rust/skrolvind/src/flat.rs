@@ -1,7 +1,13 @@
 //! The C functions as `include/skrolvind.h` has them, over slices: flat records, numbers for kinds and sub-functions, sizes in two
 //! halves. All the unsafe code of this crate is here. The functions of the crate's root are the ones to use; these are for those
-//! who want the very records.
-#![allow(missing_docs)]
+//! who want the very records. Each record has the fields of the header, under the names that they have there, and the header says what
+//! they are: first the three numbers of a refusal, all 0 where the call is accepted.
+#![allow(unsafe_code)]
+#![allow(
+    missing_docs,
+    reason = "fields and C functions are the header's, which says what they are"
+)]
+use crate::read::part;
 use core::mem::offset_of;
 
 /// A file transfer message that was read.
@@ -45,6 +51,17 @@ pub struct Written {
     pub first: u64,
     pub second: u64,
     pub written: u64,
+}
+
+/// What a rewriting did: how many bytes it wrote, and where the message that it read ends.
+#[repr(C)]
+#[derive(Clone, Copy, Debug, Default, PartialEq, Eq)]
+pub struct Rewritten {
+    pub number: u64,
+    pub first: u64,
+    pub second: u64,
+    pub written: u64,
+    pub tail: u64,
 }
 
 /// The desk's answer.
@@ -212,17 +229,23 @@ pub struct Found {
     pub status: u64,
 }
 
-/// A record as it is handed over to be written, seven bytes. A `known` of 0 says that severity and functional unit are unknown,
-/// whatever the two are; any other, that they are known.
+/// A record as it is handed over to be written, seven bytes.
 #[repr(C)]
 #[derive(Clone, Copy, Debug, Default, PartialEq, Eq, Hash)]
 pub struct CodeRecord {
+    /// 0 says that severity and functional unit are unknown, whatever the two are; any other, that they are known.
     pub known: u8,
+    /// The severity byte.
     pub severity: u8,
+    /// The functional unit.
     pub unit: u8,
+    /// The first byte of the code.
     pub high: u8,
+    /// Its second byte.
     pub middle: u8,
+    /// Its third byte.
     pub low: u8,
+    /// The status byte.
     pub status: u8,
 }
 
@@ -284,7 +307,7 @@ impl Sizes {
 pub mod c {
     use super::{
         Batch, Changes, Desk, FileTransfer, Found, Head, Index, Listed, Message, NextTroubleCode,
-        Replay, Routine, Split, Tally, TroubleCode, Why, Written,
+        Replay, Rewritten, Routine, Split, Tally, TroubleCode, Why, Written,
     };
 
     unsafe extern "C" {
@@ -339,16 +362,17 @@ pub mod c {
             message_len: usize,
             room: *mut u8,
             room_len: usize,
-        ) -> Written;
+        ) -> Rewritten;
         pub fn skr_rewrite_response(
             message: *const u8,
             message_len: usize,
             room: *mut u8,
             room_len: usize,
-        ) -> Written;
+        ) -> Rewritten;
         pub fn skr_desk_check(message: *const u8, message_len: usize) -> Desk;
         pub fn skr_why_request(message: *const u8, message_len: usize) -> Why;
         pub fn skr_why_response(message: *const u8, message_len: usize) -> Why;
+        pub fn skr_refusal_text(number: u64, room: *mut u8, room_len: usize) -> Written;
         pub fn skr_valid_up_to(name: *const u8, name_len: usize) -> u64;
         pub safe fn skr_dtc_from_number(number: u32) -> TroubleCode;
         pub fn skr_dtc_next(buffer: *const u8, buffer_len: usize) -> NextTroubleCode;
@@ -498,6 +522,27 @@ pub fn read_request(message: &[u8]) -> FileTransfer {
     unsafe { c::skr_read_request(message.as_ptr(), message.len()) }
 }
 
+/// The name of a request that the library read, at the place that it answered.
+///
+/// # Safety
+/// Message and place belong together so.
+#[inline]
+unsafe fn name(message: &[u8], start: u64, len: u64) -> &str {
+    let name = part(message, start, len);
+    debug_assert!(str::from_utf8(name).is_ok());
+    // SAFETY: the library is proved to accept a request only where its name is UTF-8 as RFC 3629 has it, which is what `str` asks for:
+    // `paper:specs/Field.name`, `paper:proofs/Utf8.is-utf8` (docs/STATEMENTS.md).
+    unsafe { str::from_utf8_unchecked(name) }
+}
+
+/// `skr_read_request`, and the name; empty where the request is refused.
+#[inline]
+pub(crate) fn read_named_request(message: &[u8]) -> (FileTransfer, &str) {
+    let r = read_request(message);
+    // SAFETY: the place is the library's answer to this very message; after a refusal it is empty.
+    (r, unsafe { name(message, r.start, r.len) })
+}
+
 /// `skr_read_response`.
 #[must_use]
 #[inline]
@@ -577,7 +622,7 @@ pub fn write_routine_response(sub: u8, identifier: u16, record: &[u8], room: &mu
 
 /// `skr_rewrite_request`.
 #[inline]
-pub fn rewrite_request(message: &[u8], room: &mut [u8]) -> Written {
+pub fn rewrite_request(message: &[u8], room: &mut [u8]) -> Rewritten {
     let (m, m_len) = (message.as_ptr(), message.len());
     let (r, r_len) = (room.as_mut_ptr(), room.len());
     // SAFETY: each pointer stands with its own slice's length, and the two slices do not overlap.
@@ -586,7 +631,7 @@ pub fn rewrite_request(message: &[u8], room: &mut [u8]) -> Written {
 
 /// `skr_rewrite_response`.
 #[inline]
-pub fn rewrite_response(message: &[u8], room: &mut [u8]) -> Written {
+pub fn rewrite_response(message: &[u8], room: &mut [u8]) -> Rewritten {
     let (m, m_len) = (message.as_ptr(), message.len());
     let (r, r_len) = (room.as_mut_ptr(), room.len());
     // SAFETY: each pointer stands with its own slice's length, and the two slices do not overlap.
@@ -615,6 +660,13 @@ pub fn why_request(message: &[u8]) -> Why {
 pub fn why_response(message: &[u8]) -> Why {
     // SAFETY: the pointer and the length are those of one slice.
     unsafe { c::skr_why_response(message.as_ptr(), message.len()) }
+}
+
+/// `skr_refusal_text`.
+#[inline]
+pub fn refusal_text(number: u64, room: &mut [u8]) -> Written {
+    // SAFETY: the pointer and the length are those of one slice.
+    unsafe { c::skr_refusal_text(number, room.as_mut_ptr(), room.len()) }
 }
 
 /// `skr_valid_up_to`.
@@ -681,6 +733,17 @@ pub fn replay_log(log: &[u8]) -> Replay {
 pub fn read_message(message: &[u8]) -> Message {
     // SAFETY: the pointer and the length are those of one slice.
     unsafe { c::skr_read_message(message.as_ptr(), message.len()) }
+}
+
+/// `skr_read_message`, and the name; empty where the message is refused, or is no file transfer request.
+#[inline]
+pub(crate) fn read_named_message(message: &[u8]) -> (Message, &str) {
+    let r = read_message(message);
+    if r.service != 0x38 {
+        return (r, "");
+    }
+    // SAFETY: the place is the library's answer to this very message, which is a request.
+    (r, unsafe { name(message, r.start, r.len) })
 }
 
 /// `skr_write_request_message`.

@@ -5,7 +5,7 @@ use crate::read::{accepted, as_small};
 use core::fmt;
 
 /// A joined buffer that was refused.
-#[derive(Clone, Copy, Debug, PartialEq, Eq)]
+#[derive(Clone, Copy, Debug, PartialEq, Eq, Hash)]
 pub struct NotSplit {
     /// The refusal: that of the first piece that is no request, 12, or 7.
     pub refusal: Refusal,
@@ -30,7 +30,7 @@ impl core::error::Error for NotSplit {}
 /// whatever they are; and last 7 where the list has fewer entries than there are requests.
 ///
 /// ```
-/// use skrolvind::{NotSplit, read_batch, split_joined};
+/// use skrolvind::{NotSplit, Refusal, read_batch, split_joined};
 ///
 /// // the file `a` deleted, and a folder without a name read
 /// let buffer = [2, 0, 1, 0x61, 5, 0, 0];
@@ -40,6 +40,9 @@ impl core::error::Error for NotSplit {}
 /// let mut numbers = [99; 2];
 /// assert_eq!(read_batch(&buffer, &lengths[..count], &mut numbers), Ok(2));
 /// assert_eq!(numbers, [0, 0]);
+/// // the second piece is cut
+/// let refusal = Refusal::TooShort { needed: 2, available: 1 };
+/// assert_eq!(split_joined(&buffer[..6], &mut lengths), Err(NotSplit { refusal, found: 1 }));
 /// # Ok::<(), NotSplit>(())
 /// ```
 #[inline]

@@ -1,8 +1,10 @@
 //! Trouble-code listings: read, their records one by one, an index beside them, and codes looked up by it.
 use crate::flat;
 use crate::read::{accepted, as_small};
+use crate::types::of_byte;
 use crate::write::count;
 use crate::{Refusal, Severity, TroubleCode};
+use core::iter::FusedIterator;
 
 pub use crate::flat::CodeRecord;
 
@@ -27,6 +29,8 @@ impl ListingSub {
         }
     }
 }
+
+of_byte!(ListingSub, |_| Refusal::UnknownService { place: 0 });
 
 /// What a listing of 0x08 has before each code.
 #[derive(Clone, Copy, Debug, PartialEq, Eq, Hash)]
@@ -125,7 +129,7 @@ impl<'a> Listing<'a> {
     /// Refusals 1, 15, 12 and 10.
     #[inline]
     pub fn read(sub: ListingSub, message: &'a [u8]) -> Result<Self, Refusal> {
-        let r = flat::read_listing(sub as u8, message);
+        let r = flat::read_listing(sub.into(), message);
         accepted(r.number, r.first, r.second)?;
         Ok(Self {
             sub,
@@ -157,7 +161,7 @@ impl<'a> Listing<'a> {
     #[must_use]
     #[inline]
     pub fn record(&self, place: usize) -> Option<Listed> {
-        let r = flat::listing_record(self.sub as u8, self.message, place);
+        let r = flat::listing_record(self.sub.into(), self.message, place);
         (r.found != 0).then(|| {
             listed([
                 r.known, r.severity, r.unit, r.high, r.middle, r.low, r.status,
@@ -178,7 +182,7 @@ impl<'a> Listing<'a> {
     #[must_use]
     #[inline]
     pub fn index(&self) -> Index<'a> {
-        let r = flat::listing_index(self.sub as u8, self.message);
+        let r = flat::listing_index(self.sub.into(), self.message);
         Index {
             listing: *self,
             counts: r.counts,
@@ -227,6 +231,8 @@ impl Iterator for Records<'_> {
 
 impl ExactSizeIterator for Records<'_> {}
 
+impl FusedIterator for Records<'_> {}
+
 /// The index beside a listing: for each high byte, how many records have it and the place of the first.
 #[derive(Clone, Copy, Debug, PartialEq, Eq)]
 pub struct Index<'a> {
@@ -265,7 +271,7 @@ impl<'a> Index<'a> {
     #[inline]
     pub fn get(&self, code: TroubleCode) -> Result<Option<(usize, Listed)>, Refusal> {
         let Listing { sub, message, .. } = self.listing;
-        let r = flat::listing_lookup(sub as u8, message, &self.counts, &self.firsts, code);
+        let r = flat::listing_lookup(sub.into(), message, &self.counts, &self.firsts, code);
         match accepted(r.number, r.first, r.second) {
             Ok(()) => {
                 let record = listed([
@@ -273,7 +279,7 @@ impl<'a> Index<'a> {
                 ]);
                 Ok(Some((as_small(r.place), record)))
             }
-            Err(Refusal { number: 16, .. }) => Ok(None),
+            Err(Refusal::NoSuchCode) => Ok(None),
             Err(refusal) => Err(refusal),
         }
     }
@@ -302,7 +308,7 @@ impl<'a> Index<'a> {
 /// // the second record loses its severity
 /// records[1].known = 0;
 /// let refused = write_listing(ListingSub::BySeverityMask, 0xFF, &records, &mut room);
-/// assert_eq!(refused, Err(Refusal { number: 11, first: 1, second: 0 }));
+/// assert_eq!(refused, Err(Refusal::OutOfRange { place: 1 }));
 /// # Ok::<(), Refusal>(())
 /// ```
 #[inline]
@@ -313,5 +319,5 @@ pub fn write_listing(
     room: &mut [u8],
 ) -> Result<usize, Refusal> {
     let records = flat::record_bytes(records);
-    count(flat::write_listing(sub as u8, mask, records, room))
+    count(flat::write_listing(sub.into(), mask, records, room))
 }

@@ -1,6 +1,7 @@
 //! Whole messages off the adapter: a service byte, and then a message of document 01 or a negative answer.
 use crate::flat::{self, Sizes};
 use crate::read::{accepted, as_small, kind, part, sub_function, whole};
+use crate::types::of_byte;
 use crate::write::count;
 use crate::{Refusal, Request, Response, RoutineRequest, RoutineResponse};
 
@@ -25,6 +26,8 @@ impl Service {
         }
     }
 }
+
+of_byte!(Service, |_| Refusal::OutOfRange { place: 0 });
 
 /// A negative answer.
 #[derive(Clone, Copy, Debug, PartialEq, Eq, Hash)]
@@ -59,19 +62,24 @@ pub enum Message<'a> {
 /// it is longer than three bytes, then 11 when it answers another service; of the others those of their own readers.
 ///
 /// ```
-/// use skrolvind::{Message, NegativeAnswer, Service, read_message};
+/// use skrolvind::{Message, NegativeAnswer, Refusal, Service, read_message};
 ///
 /// let answer = read_message(&[0x7F, 0x38, 0x31])?;
 /// let service = Service::FileTransfer;
 /// assert_eq!(answer, Message::Negative(NegativeAnswer { service, code: 0x31, listed: true }));
-/// # Ok::<(), skrolvind::Refusal>(())
+/// let Message::FileRequest(request, tail) = read_message(&[0x38, 2, 0, 1, b'a'])? else {
+///     unreachable!("0x38 begins a request");
+/// };
+/// assert_eq!((request.name, tail), ("a", &[][..]));
+/// assert_eq!(read_message(&[0x39]), Err(Refusal::UnknownService { place: 0 }));
+/// # Ok::<(), Refusal>(())
 /// ```
 #[inline]
 pub fn read_message(message: &[u8]) -> Result<Message<'_>, Refusal> {
-    let r = flat::read_message(message);
+    let (r, name) = flat::read_named_message(message);
     accepted(r.number, r.first, r.second)?;
     Ok(match r.service {
-        0x38 => Message::FileRequest(file_request(message, &r), &message[as_small(r.tail)..]),
+        0x38 => Message::FileRequest(file_request(name, &r), &message[as_small(r.tail)..]),
         0x31 => Message::RoutineRequest(routine_request(message, &r)),
         0x78 => Message::FileResponse(file_response(message, &r), &message[as_small(r.tail)..]),
         0x71 => Message::RoutineResponse(routine_response(message, &r)),
@@ -80,10 +88,10 @@ pub fn read_message(message: &[u8]) -> Result<Message<'_>, Refusal> {
 }
 
 #[inline]
-fn file_request<'a>(message: &'a [u8], r: &flat::Message) -> Request<'a> {
+fn file_request<'a>(name: &'a str, r: &flat::Message) -> Request<'a> {
     Request {
         kind: kind(r.kind),
-        name: part(message, r.start, r.len),
+        name,
         format: as_small(r.format),
         uncompressed: whole(r.uncompressed_high, r.uncompressed_low),
         compressed: whole(r.compressed_high, r.compressed_low),
@@ -135,11 +143,21 @@ fn negative(r: &flat::Message) -> NegativeAnswer {
 ///
 /// # Errors
 /// Refusals 2 and 7; the latter counts the service byte.
+///
+/// ```
+/// use skrolvind::{Kind, Refusal, Request, write_request_message};
+///
+/// let request = Request { kind: Kind::DeleteFile, name: "a", format: 0, uncompressed: 0, compressed: 0 };
+/// let mut room = vec![0; 1 + request.needed()?];
+/// assert_eq!(write_request_message(&request, &mut room)?, 5);
+/// assert_eq!(room, [0x38, 2, 0, 1, b'a']);
+/// # Ok::<(), Refusal>(())
+/// ```
 #[inline]
 pub fn write_request_message(request: &Request<'_>, room: &mut [u8]) -> Result<usize, Refusal> {
     count(flat::write_request_message(
-        request.kind as u8,
-        request.name,
+        request.kind.into(),
+        request.name.as_bytes(),
         request.format,
         Sizes::new(request.uncompressed, request.compressed),
         room,
@@ -153,7 +171,7 @@ pub fn write_request_message(request: &Request<'_>, room: &mut [u8]) -> Result<u
 #[inline]
 pub fn write_response_message(response: &Response<'_>, room: &mut [u8]) -> Result<usize, Refusal> {
     count(flat::write_response_message(
-        response.kind as u8,
+        response.kind.into(),
         response.block,
         response.format,
         Sizes::new(response.uncompressed, response.compressed),
@@ -173,7 +191,7 @@ pub fn write_routine_request_message(
 ) -> Result<usize, Refusal> {
     count(flat::write_routine_request_message(
         request.suppress,
-        request.sub_function as u8,
+        request.sub_function.into(),
         request.identifier,
         request.record,
         room,
@@ -190,7 +208,7 @@ pub fn write_routine_response_message(
     room: &mut [u8],
 ) -> Result<usize, Refusal> {
     count(flat::write_routine_response_message(
-        response.sub_function as u8,
+        response.sub_function.into(),
         response.identifier,
         response.record,
         room,
@@ -201,23 +219,25 @@ pub fn write_routine_response_message(
 ///
 /// # Errors
 /// Refusal 7.
+///
+/// ```
+/// use skrolvind::{Refusal, Service, write_negative};
+///
+/// let mut room = [0; 3];
+/// assert_eq!(write_negative(Service::RoutineControl, 0x72, &mut room)?, 3);
+/// assert_eq!(room, [0x7F, 0x31, 0x72]);
+/// # Ok::<(), Refusal>(())
+/// ```
 #[inline]
 pub fn write_negative(service: Service, code: u8, room: &mut [u8]) -> Result<usize, Refusal> {
-    count(flat::write_negative(service as u8, code, room))
+    count(flat::write_negative(service.into(), code, room))
 }
 
 #[cfg(test)]
 mod tests {
     use super::*;
+    use crate::tests::refusal;
     use crate::{Kind, SubFunction};
-
-    const fn refused(number: u64, first: u64, second: u64) -> Refusal {
-        Refusal {
-            number,
-            first,
-            second,
-        }
-    }
 
     #[test]
     fn each_sort_is_read_with_its_parts_of_the_message() {
@@ -227,7 +247,7 @@ mod tests {
         };
         assert_eq!(
             (request.kind, request.name, tail),
-            (Kind::DeleteFile, &b"a"[..], &[0x5A][..])
+            (Kind::DeleteFile, "a", &[0x5A][..])
         );
         assert_eq!(request.name.as_ptr(), &raw const message[4]);
         let message = [0x78, 1, 1, 9, 0x11];
@@ -276,23 +296,23 @@ mod tests {
                 assert_eq!(read_message(&room[..3]), Ok(Message::Negative(answer)));
             }
         }
-        assert_eq!(read_message(&[0x7F, 0x38]), Err(refused(1, 3, 2)));
-        assert_eq!(read_message(&[0x7F, 9, 0, 0]), Err(refused(9, 1, 0)));
-        assert_eq!(read_message(&[0x7F, 9, 0]), Err(refused(11, 0, 0)));
+        assert_eq!(read_message(&[0x7F, 0x38]), Err(refusal(1, 3, 2)));
+        assert_eq!(read_message(&[0x7F, 9, 0, 0]), Err(refusal(9, 1, 0)));
+        assert_eq!(read_message(&[0x7F, 9, 0]), Err(refusal(11, 0, 0)));
     }
 
     #[test]
     fn other_bytes_begin_no_message() {
-        assert_eq!(read_message(&[]), Err(refused(1, 1, 0)));
-        assert_eq!(read_message(&[0x39, 1, 2]), Err(refused(15, 0, 0)));
-        assert_eq!(read_message(&[0x38]), Err(refused(1, 1, 0)));
+        assert_eq!(read_message(&[]), Err(refusal(1, 1, 0)));
+        assert_eq!(read_message(&[0x39, 1, 2]), Err(refusal(15, 0, 0)));
+        assert_eq!(read_message(&[0x38]), Err(refusal(1, 1, 0)));
     }
 
     #[test]
     fn a_room_counts_the_service_byte() {
         let request = Request {
             kind: Kind::DeleteFile,
-            name: b"a",
+            name: "a",
             format: 0,
             uncompressed: 0,
             compressed: 0,
@@ -303,7 +323,7 @@ mod tests {
         for len in 0..5 {
             let mut room = [9; 5];
             let answer = write_request_message(&request, &mut room[..len]);
-            assert_eq!(answer, Err(refused(7, 5, len as u64)));
+            assert_eq!(answer, Err(refusal(7, 5, len as u64)));
             assert_eq!(room, [9; 5]);
         }
         let answer = flat::write_negative(0x39, 0, &mut []);

@@ -45,6 +45,18 @@ pub fn replay_log(log: &[u8]) -> Result<TransferState, Stopped> {
 ///
 /// # Errors
 /// Refusals 15, 13 and 14, and 12 where repeats or total would pass 64 bits.
+///
+/// ```
+/// use skrolvind::{LogRecord, Refusal, TransferState, replay_step};
+///
+/// let opening = LogRecord { service: 0x38, kind_or_counter: 1, payload: 0 };
+/// let block = |counter| LogRecord { service: 0x36, kind_or_counter: counter, payload: 512 };
+/// let state = replay_step(&TransferState::default(), opening, 0)?;
+/// let state = replay_step(&state, block(1), 1)?;
+/// assert_eq!(state.total, 512);
+/// assert_eq!(replay_step(&state, block(3), 2), Err(Refusal::WrongCounter { place: 2 }));
+/// # Ok::<(), Refusal>(())
+/// ```
 #[inline]
 pub fn replay_step(
     state: &TransferState,

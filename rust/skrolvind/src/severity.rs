@@ -61,3 +61,17 @@ impl Severity {
         self.has(0x80)
     }
 }
+
+impl From<u8> for Severity {
+    #[inline]
+    fn from(bits: u8) -> Self {
+        Self::from_bits(bits)
+    }
+}
+
+impl From<Severity> for u8 {
+    #[inline]
+    fn from(severity: Severity) -> Self {
+        severity.bits
+    }
+}

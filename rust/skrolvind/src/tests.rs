@@ -1,20 +1,18 @@
 //! Every row of document 01's bench table, and what the rows do not try.
 extern crate std;
 
+use crate::read::accepted;
 use crate::*;
-use std::string::String;
+use std::string::{String, ToString};
 use std::vec;
 use std::vec::Vec;
 
-const fn refusal(number: u64, first: u64, second: u64) -> Refusal {
-    Refusal {
-        number,
-        first,
-        second,
-    }
+/// As the library says it.
+pub fn refusal(number: u64, first: u64, second: u64) -> Refusal {
+    accepted(number, first, second).unwrap_err()
 }
 
-fn request(kind: Kind, name: &[u8]) -> Request<'_> {
+const fn request(kind: Kind, name: &str) -> Request<'_> {
     Request {
         kind,
         name,
@@ -33,7 +31,7 @@ fn refused_request(message: &[u8], number: u64, first: u64, second: u64) {
 fn a_request_to_delete() {
     let message = [2, 0, 1, 0x61];
     let (read, tail) = read_request(&message).unwrap();
-    assert_eq!(read, request(Kind::DeleteFile, b"a"));
+    assert_eq!(read, request(Kind::DeleteFile, "a"));
     assert!(tail.is_empty());
     assert_eq!(read.name.as_ptr(), message[3..].as_ptr());
 }
@@ -41,7 +39,7 @@ fn a_request_to_delete() {
 #[test]
 fn a_request_to_add_nothing() {
     let (read, _) = read_request(&[1, 0, 1, 0x61, 0, 1, 0, 0]).unwrap();
-    assert_eq!(read, request(Kind::AddFile, b"a"));
+    assert_eq!(read, request(Kind::AddFile, "a"));
 }
 
 #[test]
@@ -53,9 +51,14 @@ fn sizes_at_two_widths_mean_the_same() {
     assert_eq!((read.uncompressed, read.compressed), (255, 256));
     assert_eq!(read_request(&wide).unwrap().0, read);
     let mut room = [0xEE; 12];
-    assert_eq!(rewrite_request(&wide, &mut room), Ok(10));
+    assert_eq!(rewrite_request(&wide, &mut room), Ok((10, &[][..])));
     assert_eq!(room[..10], narrow);
     assert_eq!(room[10..], [0xEE; 2]);
+    // what follows is the tail, of the message that was read
+    let joined = [&wide[..], &narrow].concat();
+    let (written, tail) = rewrite_request(&joined, &mut room).unwrap();
+    assert_eq!((written, tail), (10, &narrow[..]));
+    assert_eq!(tail.as_ptr(), joined[12..].as_ptr());
 }
 
 #[test]
@@ -160,7 +163,7 @@ fn written_widths() {
     for (size, width) in [(u128::from(u64::MAX), 8), (1 << 64, 9), (u128::MAX, 16)] {
         let written = Request {
             uncompressed: size,
-            ..request(Kind::AddFile, b"a")
+            ..request(Kind::AddFile, "a")
         };
         let mut room = [0; 64];
         let count = write_request(&written, &mut room).unwrap();
@@ -170,6 +173,13 @@ fn written_widths() {
         room[4] = 0x11;
         assert_eq!(desk_check(&room[..count]), Ok(()));
     }
+}
+
+/// What the library says to a name that need not be text, in plenty of room.
+fn written_name(name: &[u8]) -> Result<(), Refusal> {
+    let (kind, sizes) = (Kind::DeleteFile.into(), flat::Sizes::default());
+    let w = flat::write_request(kind, name, 0, sizes, &mut vec![0; 66_000]);
+    accepted(w.number, w.first, w.second)
 }
 
 #[test]
@@ -184,11 +194,12 @@ fn names() {
         let mut message: Vec<u8> = vec![2, 0, u8::try_from(name.len()).unwrap()];
         message.extend(name);
         refused_request(&message, 2, 0, 0);
-        let written = write_request(&request(Kind::DeleteFile, name), &mut [0; 9]);
-        assert_eq!(written, Err(refusal(2, 0, 0)));
+        assert_eq!(written_name(name), Err(refusal(2, 0, 0)));
     }
     assert_eq!(valid_up_to(&[0xF4, 0x8F, 0xBF, 0xBF]), 4);
-    assert!(read_request(&[2, 0, 4, 0xF4, 0x8F, 0xBF, 0xBF]).is_ok());
+    let message = [2, 0, 4, 0xF4, 0x8F, 0xBF, 0xBF];
+    let (read, _) = read_request(&message).unwrap();
+    assert_eq!(read.name, "\u{10FFFF}");
 }
 
 #[test]
@@ -208,23 +219,24 @@ fn where_a_name_goes_bad() {
         assert_eq!(desk_check(&message), Err(refusal(2, good, 0)));
         let rewritten = rewrite_request(&message, &mut [0; 300]);
         assert_eq!(rewritten, Err(refusal(2, good, 0)));
-        let written = write_request(&request(Kind::DeleteFile, name), &mut [0; 300]);
-        assert_eq!(written, Err(refusal(2, good, 0)));
+        assert_eq!(written_name(name), Err(refusal(2, good, 0)));
     }
 }
 
 #[test]
 fn a_name_that_is_too_long() {
     for byte in [b'a', 0xFF] {
-        let name = vec![byte; 65_536];
-        let mut room = vec![0; 65_539];
-        let written = write_request(&request(Kind::DeleteFile, &name), &mut room);
-        assert_eq!(written, Err(refusal(2, 0, 0)));
+        let name = vec![byte; LONGEST_NAME + 1];
+        assert_eq!(written_name(&name), Err(refusal(2, 0, 0)));
+        assert_eq!(written_name(&name[1..]).is_ok(), byte == b'a');
     }
+    let name = "a".repeat(LONGEST_NAME + 1);
+    let long = request(Kind::DeleteFile, &name);
+    assert_eq!(long.needed(), Err(refusal(2, 0, 0)));
 }
 
 #[test]
-fn trouble_codes() {
+fn trouble_codes_of_numbers_and_buffers() {
     let all = TroubleCode {
         high: 255,
         middle: 255,
@@ -236,6 +248,26 @@ fn trouble_codes() {
     assert_eq!(next_trouble_code(&[1, 2]), Err(refusal(1, 3, 2)));
     let next = next_trouble_code(&[255, 255, 255, 4]);
     assert_eq!(next, Ok(Some((all, &[4][..]))));
+    for number in [0, 0x03_0111, 0x00FF_FFFF] {
+        let code = TroubleCode::try_from(number).unwrap();
+        assert_eq!(u32::from(code), number);
+        assert_eq!(TroubleCode::from(<[u8; 3]>::from(code)), code);
+    }
+}
+
+#[test]
+fn trouble_codes_one_after_the_other() {
+    let buffer = [3, 1, 0x11, 0xC1, 0, 0, 9, 9];
+    let all: Vec<_> = trouble_codes(&buffer[..6]).collect();
+    assert_eq!(all, [Ok(code(3, 1, 0x11)), Ok(code(0xC1, 0, 0))]);
+    let mut cut = trouble_codes(&buffer);
+    assert_eq!(cut.len(), 3);
+    assert!(cut.by_ref().take(2).eq(all));
+    assert_eq!(cut.len(), 1);
+    assert_eq!(cut.next(), Some(Err(refusal(1, 3, 2))));
+    // nothing comes after a refusal
+    assert_eq!((cut.len(), cut.next(), cut.next()), (0, None, None));
+    assert_eq!(trouble_codes(&[]).next(), None);
 }
 
 #[test]
@@ -418,19 +450,207 @@ fn why_responses_are_refused() {
     }
 }
 
+/// Every refusal with the numbers that it has.
+const REFUSALS: [(Refusal, [u64; 3]); 18] = [
+    (
+        Refusal::TooShort {
+            needed: 4,
+            available: 3,
+        },
+        [1, 4, 3],
+    ),
+    (Refusal::WrongFormat { good: 150 }, [2, 150, 0]),
+    (Refusal::UnknownMode(7), [3, 7, 0]),
+    (Refusal::UnknownSubFunction(0x7F), [4, 0x7F, 0]),
+    (Refusal::NoTroubleCode(0x0100_0000), [5, 0x0100_0000, 0]),
+    (Refusal::BadWidth(17), [6, 17, 0]),
+    (Refusal::NoRoom { needed: 4, room: 3 }, [7, 4, 3]),
+    (Refusal::UnequalSizes, [8, 0, 0]),
+    (Refusal::LeftOver(9), [9, 9, 0]),
+    (Refusal::Cut, [10, 0, 0]),
+    (Refusal::OutOfRange { place: 5 }, [11, 5, 0]),
+    (Refusal::TooMany, [12, 0, 0]),
+    (Refusal::NotAllowed { place: 5 }, [13, 5, 0]),
+    (Refusal::WrongCounter { place: 5 }, [14, 5, 0]),
+    (Refusal::UnknownService { place: 5 }, [15, 5, 0]),
+    (Refusal::NoSuchCode, [16, 0, 0]),
+    (Refusal::Repeated { place: 5 }, [17, 5, 0]),
+    (Refusal::BadCharacter { place: 5 }, [18, 5, 0]),
+];
+
+#[test]
+fn every_refusal_and_its_numbers() {
+    assert_eq!(accepted(0, 0, 0), Ok(()));
+    for (place, (made, [number, first, second])) in REFUSALS.into_iter().enumerate() {
+        assert_eq!(number, place as u64 + 1);
+        assert_eq!(refusal(number, first, second), made);
+        let said = [made.number(), made.first(), made.second()];
+        assert_eq!(said, [number, first, second]);
+        assert_eq!(made.needed(), matches!(number, 1 | 7).then_some(4));
+        assert_eq!(Refusal::meaning_of(number), Some(made.meaning()));
+    }
+}
+
+#[test]
+#[should_panic(expected = "the library answered 19 where that cannot be")]
+fn no_refusal_has_another_number() {
+    refusal(19, 0, 0);
+}
+
+#[test]
+fn the_titles_of_refusals() {
+    let titles: Vec<_> = include_str!("../../../docs/REFUSALS.md")
+        .lines()
+        .filter_map(|line| line.strip_prefix("## ")?.split_once(": "))
+        .collect();
+    assert_eq!(titles.len(), 19);
+    for (place, (number, title)) in titles.into_iter().enumerate() {
+        assert_eq!(number, place.to_string());
+        let meaning = Refusal::meaning_of(place as u64).unwrap();
+        let beginning = meaning.split(": ").next();
+        assert_eq!(beginning, Some(title));
+    }
+}
+
+#[test]
+fn what_the_library_says_of_a_number() {
+    let mut longest = 0;
+    for number in (0..40).chain([255, 256, 1 << 32, u64::MAX]) {
+        let mut room = [0xEE; LONGEST_REFUSAL_TEXT + 1];
+        let w = flat::refusal_text(number, &mut room);
+        let Some(meaning) = Refusal::meaning_of(number) else {
+            assert_eq!([w.number, w.first, w.second, w.written], [11, 0, 0, 0]);
+            assert_eq!(room, [0xEE; LONGEST_REFUSAL_TEXT + 1]);
+            continue;
+        };
+        let len = meaning.len();
+        assert_eq!([w.number, w.written], [0, len as u64]);
+        assert_eq!((&room[..len], room[len]), (meaning.as_bytes(), 0xEE));
+        let short = flat::refusal_text(number, &mut room[..len - 1]);
+        let short = accepted(short.number, short.first, short.second);
+        assert_eq!(short, Err(refusal(7, len as u64, len as u64 - 1)));
+        longest = longest.max(len);
+    }
+    assert_eq!(longest, LONGEST_REFUSAL_TEXT);
+}
+
 #[test]
 fn a_refusal_and_a_reason_print_their_meaning() {
-    let cut = refusal(1, 4, 3);
-    let text = "refused 1 4 3: a field has fewer bytes than it needs";
-    assert_eq!(std::format!("{cut}"), text);
+    let text = "refused 1 4 3: too short: a field has fewer bytes than it needs";
+    assert_eq!(refusal(1, 4, 3).to_string(), text);
     let why = why_request(&[7, 0, 2, 0x61]).unwrap_err();
-    assert_eq!(std::format!("{why}"), std::format!("name at 1: {text}"));
-    // each number has a meaning of its own
-    let mut meanings: Vec<_> = (0..=18).map(|n| refusal(n, 0, 0).meaning()).collect();
-    assert_eq!(meanings[0], refusal(99, 0, 0).meaning());
-    meanings.sort_unstable();
-    meanings.dedup();
-    assert_eq!(meanings.len(), 19);
+    assert_eq!(why.to_string(), std::format!("name at 1: {text}"));
+}
+
+/// What is made of each byte, and that there is a way back.
+fn of_bytes<T: Copy + TryFrom<u8> + Into<u8>>() -> (Vec<u8>, T::Error) {
+    let values = (0..=255).filter_map(|byte| T::try_from(byte).ok());
+    (
+        values.map(Into::into).collect(),
+        T::try_from(0xFF).err().unwrap(),
+    )
+}
+
+#[test]
+fn values_of_bytes() {
+    let other = Refusal::UnknownMode(0xFF);
+    assert_eq!(of_bytes::<Kind>(), (vec![1, 2, 3, 4, 5, 6], other));
+    let other = Refusal::UnknownSubFunction(0xFF);
+    assert_eq!(of_bytes::<SubFunction>(), (vec![1, 2, 3], other));
+    // as the library refuses these bytes
+    let negative = flat::read_message(&[0x7F, 0xFF, 0]);
+    let other = refusal(negative.number, negative.first, negative.second);
+    assert_eq!(of_bytes::<Service>(), (vec![0x31, 0x38], other));
+    let listing = flat::read_listing(0xFF, &[0x59, 0xFF, 0]);
+    let other = refusal(listing.number, listing.first, listing.second);
+    assert_eq!(of_bytes::<ListingSub>(), (vec![0x02, 0x08], other));
+    let numbers = (0..=255).filter_map(Field::from_number);
+    assert!(numbers.map(u8::from).eq(1..=6));
+}
+
+#[test]
+fn the_longest_of_each() {
+    let name = "a".repeat(LONGEST_NAME);
+    let longest = Request {
+        uncompressed: u128::MAX,
+        ..request(Kind::AddFile, &name)
+    };
+    assert_eq!(longest.needed(), Ok(LONGEST_REQUEST));
+    let mut room = vec![0; LONGEST_MESSAGE];
+    assert_eq!(write_request(&longest, &mut room), Ok(LONGEST_REQUEST));
+    assert_eq!(
+        write_request_message(&longest, &mut room),
+        Ok(LONGEST_MESSAGE)
+    );
+    let longest = Response {
+        kind: Kind::ReadFile,
+        block: &[0; LONGEST_BLOCK_LENGTH],
+        format: 0,
+        uncompressed: 0,
+        compressed: u128::MAX,
+        position: 0,
+    };
+    assert_eq!(longest.needed(), Ok(LONGEST_RESPONSE));
+    let record = &[0; LONGEST_RECORD];
+    let (sub_function, identifier) = (SubFunction::Start, 0);
+    let longest = RoutineResponse {
+        sub_function,
+        identifier,
+        record,
+    };
+    assert_eq!(longest.needed(), Ok(LONGEST_ROUTINE));
+    let longest = RoutineRequest {
+        suppress: false,
+        sub_function,
+        identifier,
+        record,
+    };
+    assert_eq!(longest.needed(), Ok(LONGEST_ROUTINE));
+}
+
+#[test]
+fn the_lengths_of_the_header() {
+    let lengths = [
+        ("LONGEST_REQUEST", LONGEST_REQUEST),
+        ("LONGEST_RESPONSE", LONGEST_RESPONSE),
+        ("LONGEST_ROUTINE", LONGEST_ROUTINE),
+        ("LONGEST_MESSAGE", LONGEST_MESSAGE),
+        ("LONGEST_NAME", LONGEST_NAME),
+        ("LONGEST_BLOCK_LENGTH", LONGEST_BLOCK_LENGTH),
+        ("LONGEST_RECORD", LONGEST_RECORD),
+        ("MOST_MESSAGES", MOST_MESSAGES),
+        ("MOST_LISTED", MOST_LISTED),
+        ("LONGEST_LISTING", LONGEST_LISTING),
+        ("LONGEST_LISTING_TEXT", LONGEST_LISTING_TEXT),
+        ("LONGEST_REFUSAL_TEXT", LONGEST_REFUSAL_TEXT),
+        ("MOST_RECORDS", MOST_RECORDS),
+    ];
+    let header = include_str!("../../../include/skrolvind.h");
+    let named = header.lines().filter_map(|line| {
+        let line = line.strip_prefix("#define SKR_")?;
+        let (name, rest) = line.split_once(' ')?;
+        let number = rest.split_whitespace().next()?;
+        (name.starts_with("LONGEST_") || name.starts_with("MOST_")).then_some((name, number))
+    });
+    for (name, number) in named {
+        let length = lengths.iter().find(|(own, _)| *own == name);
+        assert_eq!(
+            length.map(|(_, length)| length.to_string()).as_deref(),
+            Some(number),
+            "{name}"
+        );
+    }
+}
+
+#[test]
+fn the_longest_listing() {
+    let records = vec![handed(ListingSub::BySeverityMask, &RATED)[0]; MOST_LISTED];
+    let mut room = vec![0; LONGEST_LISTING];
+    let written = write_listing(ListingSub::BySeverityMask, 0, &records, &mut room);
+    assert_eq!(written, Ok(LONGEST_LISTING));
+    let listing = Listing::read(ListingSub::BySeverityMask, &room).unwrap();
+    let text = listing.export(&mut [0; LONGEST_LISTING_TEXT]);
+    assert_eq!(text, Ok(LONGEST_LISTING_TEXT));
 }
 
 const LISTING: [u8; 15] = [

@@ -1,6 +1,6 @@
 //! Codes and listings as the workshop writes them.
+use crate::codes::code;
 use crate::flat;
-use crate::read::code;
 use crate::write::count;
 use crate::{Listing, Refusal, TroubleCode};
 use core::fmt;
@@ -15,7 +15,7 @@ use core::str::FromStr;
 /// assert_eq!(code.to_string(), "P0301-11");
 /// assert_eq!("P0301-11".parse(), Ok(code));
 /// let refused = "P03o1-11".parse::<TroubleCode>();
-/// assert_eq!(refused, Err(Refusal { number: 18, first: 3, second: 0 }));
+/// assert_eq!(refused, Err(Refusal::BadCharacter { place: 3 }));
 /// ```
 impl fmt::Display for TroubleCode {
     fn fmt(&self, f: &mut fmt::Formatter<'_>) -> fmt::Result {
@@ -44,7 +44,7 @@ impl Listing<'_> {
     /// Refusal 7.
     #[inline]
     pub fn export(&self, room: &mut [u8]) -> Result<usize, Refusal> {
-        count(flat::export_listing(self.sub as u8, self.message, room))
+        count(flat::export_listing(self.sub.into(), self.message, room))
     }
 }
 

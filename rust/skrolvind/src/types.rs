@@ -1,58 +1,29 @@
 //! What is handed in and out.
+use crate::Refusal;
 use core::fmt;
 
-/// Why a call was refused: the number of the refusal (`docs/REFUSALS.md` says what each one means) and the two values that it carries.
-#[derive(Clone, Copy, Debug, PartialEq, Eq, Hash)]
-pub struct Refusal {
-    /// From 1 to 9 for what document 01 has, and from 10 up for document 02.
-    pub number: u64,
-    /// The first value, or 0. Of refusal 2 for a name that is not UTF-8: the length of its longest beginning that is.
-    pub first: u64,
-    /// The second value, or 0.
-    pub second: u64,
-}
+/// The ways from a byte to a value of an enum, with a refusal of every other byte, and back.
+macro_rules! of_byte {
+    ($name:ident, $refusal:expr) => {
+        impl TryFrom<u8> for $name {
+            type Error = Refusal;
 
-impl Refusal {
-    /// What the number means, in a few words.
-    #[must_use]
-    pub const fn meaning(&self) -> &'static str {
-        match self.number {
-            1 => "a field has fewer bytes than it needs",
-            2 => "the name is not UTF-8, or something is too long",
-            3 => "no file operation has this number",
-            4 => "no routine sub-function has this number",
-            5 => "no trouble code has this number",
-            6 => "a size is 1 to 16 bytes wide",
-            7 => "the room is smaller than the message",
-            8 => "the sizes differ though the file is not packed",
-            9 => "bytes are left over",
-            10 => "the last record is cut, or lengths do not add up",
-            11 => "a field is out of range or does not fit, or the index is another listing's",
-            12 => "there are more records or messages than are taken",
-            13 => "this step is not allowed here",
-            14 => "a block has the wrong counter",
-            15 => "this service byte, or these first bytes, are none that we have",
-            16 => "no record has this code",
-            17 => "a code stands twice in a listing",
-            18 => "a character cannot stand where it does, or the text ends early",
-            _ => "this number is not known here",
+            #[inline]
+            fn try_from(byte: u8) -> Result<Self, Refusal> {
+                Self::from_number(byte.into()).ok_or(byte).map_err($refusal)
+            }
         }
-    }
+
+        impl From<$name> for u8 {
+            #[inline]
+            fn from(value: $name) -> Self {
+                value as Self
+            }
+        }
+    };
 }
 
-/// `refused N A B: ` and the meaning.
-impl fmt::Display for Refusal {
-    fn fmt(&self, f: &mut fmt::Formatter<'_>) -> fmt::Result {
-        let meaning = self.meaning();
-        write!(
-            f,
-            "refused {} {} {}: {meaning}",
-            self.number, self.first, self.second
-        )
-    }
-}
-
-impl core::error::Error for Refusal {}
+pub(crate) use of_byte;
 
 /// The fields of a file transfer message.
 #[derive(Clone, Copy, Debug, PartialEq, Eq, Hash)]
@@ -85,6 +56,13 @@ impl Field {
             6 => Some(Self::Position),
             _ => None,
         }
+    }
+}
+
+impl From<Field> for u8 {
+    #[inline]
+    fn from(field: Field) -> Self {
+        field as Self
     }
 }
 
@@ -121,7 +99,15 @@ impl fmt::Display for Reason {
 
 impl core::error::Error for Reason {}
 
-/// The six kinds of file transfer.
+/// The six kinds of file transfer, by their mode bytes.
+///
+/// ```
+/// use skrolvind::{Kind, Refusal};
+///
+/// assert_eq!(Kind::try_from(6), Ok(Kind::ResumeFile));
+/// assert_eq!(Kind::try_from(7), Err(Refusal::UnknownMode(7)));
+/// assert_eq!(u8::from(Kind::AddFile), 1);
+/// ```
 #[derive(Clone, Copy, Debug, PartialEq, Eq, Hash)]
 #[repr(u8)]
 pub enum Kind {
@@ -155,6 +141,8 @@ impl Kind {
     }
 }
 
+of_byte!(Kind, Refusal::UnknownMode);
+
 /// The three things that can be asked of a routine.
 #[derive(Clone, Copy, Debug, PartialEq, Eq, Hash)]
 #[repr(u8)]
@@ -180,13 +168,15 @@ impl SubFunction {
     }
 }
 
+of_byte!(SubFunction, Refusal::UnknownSubFunction);
+
 /// A file transfer request. What the kind lacks is 0 when it is read, and is ignored when it is written.
 #[derive(Clone, Copy, Debug, PartialEq, Eq, Hash)]
 pub struct Request<'a> {
     /// Which of the six.
     pub kind: Kind,
-    /// The name; UTF-8 in every request that was read.
-    pub name: &'a [u8],
+    /// The name.
+    pub name: &'a str,
     /// The format byte.
     pub format: u8,
     /// The uncompressed size.
@@ -234,17 +224,6 @@ pub struct RoutineResponse<'a> {
     pub identifier: u16,
     /// All that follows.
     pub record: &'a [u8],
-}
-
-/// A trouble code.
-#[derive(Clone, Copy, Debug, PartialEq, Eq, Hash)]
-pub struct TroubleCode {
-    /// Its first byte.
-    pub high: u8,
-    /// Its second byte.
-    pub middle: u8,
-    /// Its third byte.
-    pub low: u8,
 }
 
 /// Whether a recorded transfer is open.

@@ -18,7 +18,7 @@ pub fn request(
     };
     let wanted = Request {
         kind: Kind::AddFile,
-        name: name.file_path_and_name().as_bytes(),
+        name: name.file_path_and_name(),
         format: format.value(),
         uncompressed: size.file_size_uncompressed,
         compressed: size.file_size_compressed,
