@@ -1,4 +1,4 @@
-/* One fault at a time in front of the library, to see that the comparison finds it: SKROLVIND_FAULT is its number, 1 to 139; with 0 there is none.
+/* One fault at a time in front of the library, to see that the comparison finds it: SKROLVIND_FAULT is its number, 1 to 145; with 0 there is none.
  * Each function calls the library's own, which `try` has given the prefix real_, and spoils the answer. `try` counts the lines that have FAULT ==. */
 #include <stdlib.h>
 #include <string.h>
@@ -92,18 +92,28 @@ DOOR(skr_written, skr_write_routine_response,
      if (FAULT == 35 && !r) rn = 1;                                     /* a null room is told with another length */
      return real_skr_write_routine_response(f, i, d, dn, r, rn);)
 
-DOOR(skr_written, skr_rewrite_request, (const uint8_t *m, size_t n, uint8_t *r, size_t rn),
-     skr_written w = real_skr_rewrite_request(m, n, r, rn);
+DOOR(skr_rewritten, skr_rewrite_request, (const uint8_t *m, size_t n, uint8_t *r, size_t rn),
+     skr_rewritten w = real_skr_rewrite_request(m, n, r, rn);
      if (FAULT == 16 && w.number == 7) w.first = n;                     /* needed is the length of the message that was read */
      if (FAULT == 32 && w.number == 0 && w.written < n) memcpy(LENT(m), r, w.written); /* the message is rewritten in its own place as well */
      if (FAULT == 43 && w.number == 2 && m[3 + w.first] == 0xE2) w.first += 1; /* where a character is cut, its second byte is told */
+     if (FAULT == 143 && w.number == 0) w.tail = w.written;             /* the tail is how much was written */
      return w;)
 
-DOOR(skr_written, skr_rewrite_response, (const uint8_t *m, size_t n, uint8_t *r, size_t rn),
-     skr_written w = real_skr_rewrite_response(m, n, r, rn);
+DOOR(skr_rewritten, skr_rewrite_response, (const uint8_t *m, size_t n, uint8_t *r, size_t rn),
+     skr_rewritten w = real_skr_rewrite_response(m, n, r, rn);
      if (FAULT == 17 && w.number == 0 && m[0] == 6) r[w.written - 1] ^= (n == 20); /* a bit of a position is turned, at one length */
      if (FAULT == 29 && w.number == 7 && rn == 0) r[-1] ^= 0x80;        /* a refused write changes the byte before an empty room */
      if (FAULT == 36 && !m && rn > 0) r[0] = 0;                         /* a null message is rewritten as a byte, and refused */
+     if (FAULT == 144 && w.number == 7) w.tail = real_skr_read_response(m, n).tail; /* the tail stays after a refusal */
+     if (FAULT == 145 && w.number == 0 && m[0] == 4) w.tail -= 1;       /* the tail is off by one, for one kind */
+     return w;)
+
+DOOR(skr_written, skr_refusal_text, (uint64_t n, uint8_t *r, size_t rn),
+     uint8_t all[100];
+     skr_written w = real_skr_refusal_text(FAULT == 140 && n == 14 ? 13 : n, r, rn); /* another number's words for one number */
+     if (FAULT == 141 && !w.number && w.written < rn) r[w.written] = 0; /* a zero byte ends the text */
+     if (FAULT == 142 && w.number == 7) { real_skr_refusal_text(n, all, sizeof all); memcpy(r, all, rn); } /* a room that is too small is filled with what it takes */
      return w;)
 
 DOOR(skr_desk, skr_desk_check, (const uint8_t *m, size_t n),
