@@ -9,8 +9,8 @@ use crate::read::accepted;
 /// keep what they had, and a refused call changes nothing.
 ///
 /// # Errors
-/// Refusal 12 for more than 4,096 messages, then 10 where the lengths do not add up to the buffer exactly, then 7 where the list has
-/// fewer entries than there are messages.
+/// [`Refusal::TooMany`] for more than 4,096 messages, then [`Refusal::Cut`] where the lengths do not add up to the buffer exactly,
+/// then [`Refusal::NoRoom`] where the list has fewer entries than there are messages.
 ///
 /// ```
 /// use skrolvind::{Refusal, read_batch};

@@ -84,7 +84,7 @@ pub enum Which {
 /// Two listings that were not compared.
 #[derive(Clone, Copy, Debug, PartialEq, Eq, Hash)]
 pub struct NotCompared {
-    /// The refusal: 17 with the place of the first record whose code stood before it, or 7.
+    /// [`Refusal::Repeated`] with the place of the first record whose code stood before it, or [`Refusal::NoRoom`].
     pub refusal: Refusal,
     /// The listing that is refused; none where the room is too small.
     pub which: Option<Which>,
@@ -108,7 +108,7 @@ impl Listing<'_> {
     /// most one for each record of the two listings. Availability masks are not compared.
     ///
     /// # Errors
-    /// Refusal 17 where a code stands twice in this listing, then where it does in the later one; then 7.
+    /// [`Refusal::Repeated`] where a code stands twice in this listing, then where it does in the later one; then [`Refusal::NoRoom`].
     ///
     /// ```
     /// use skrolvind::{Change, Listing, ListingSub, NotCompared, TroubleCode};

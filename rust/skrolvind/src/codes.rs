@@ -58,7 +58,7 @@ impl From<TroubleCode> for u32 {
 /// The trouble code of a number.
 ///
 /// # Errors
-/// Refusal 5.
+/// [`Refusal::NoTroubleCode`] above `0x00FF_FFFF`.
 ///
 /// ```
 /// use skrolvind::{Refusal, trouble_code};
@@ -82,10 +82,10 @@ pub(crate) fn code(r: flat::TroubleCode) -> Result<TroubleCode, Refusal> {
     })
 }
 
-/// The first trouble code of a buffer and what follows it, or nothing where the buffer is empty. [`trouble_codes`] goes on from there.
+/// The first trouble code of a buffer and what follows it, or nothing where the buffer is empty; [`trouble_codes`] hands out all.
 ///
 /// # Errors
-/// Refusal 1.
+/// [`Refusal::TooShort`] for one or two bytes.
 ///
 /// ```
 /// use skrolvind::{Refusal, next_trouble_code};

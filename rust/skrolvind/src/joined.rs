@@ -7,7 +7,7 @@ use core::fmt;
 /// A joined buffer that was refused.
 #[derive(Clone, Copy, Debug, PartialEq, Eq, Hash)]
 pub struct NotSplit {
-    /// The refusal: that of the first piece that is no request, 12, or 7.
+    /// That of the first piece that is no request, [`Refusal::TooMany`], or [`Refusal::NoRoom`].
     pub refusal: Refusal,
     /// How many requests were found before it: of a piece that is refused this is its place, counted from 0.
     pub found: usize,
@@ -26,8 +26,8 @@ impl core::error::Error for NotSplit {}
 /// count on keep what they had, and a refused call changes nothing. An empty buffer has no request.
 ///
 /// # Errors
-/// What [`read_request`](crate::read_request) answers to the first piece that it refuses; 12 where bytes follow 4,096 requests,
-/// whatever they are; and last 7 where the list has fewer entries than there are requests.
+/// What [`read_request`](crate::read_request) answers to the first piece that it refuses; [`Refusal::TooMany`] where bytes follow
+/// 4,096 requests, whatever they are; and last [`Refusal::NoRoom`] where the list has fewer entries than there are requests.
 ///
 /// ```
 /// use skrolvind::{NotSplit, Refusal, read_batch, split_joined};

@@ -126,7 +126,8 @@ impl<'a> Listing<'a> {
     /// Reads a listing.
     ///
     /// # Errors
-    /// Refusals 1, 15, 12 and 10.
+    /// [`Refusal::TooShort`] for fewer than 3 bytes, [`Refusal::UnknownService`] for other first bytes than 0x59 and the sub-function,
+    /// [`Refusal::TooMany`] for more than 4,096 whole records, [`Refusal::Cut`] for a piece after the last one.
     #[inline]
     pub fn read(sub: ListingSub, message: &'a [u8]) -> Result<Self, Refusal> {
         let r = flat::read_listing(sub.into(), message);
@@ -264,10 +265,10 @@ impl<'a> Index<'a> {
         &self.firsts
     }
 
-    /// The first record that has the code and its place, or none where no record has it, which is refusal 16.
+    /// The first record that has the code and its place, or none where no record has it.
     ///
     /// # Errors
-    /// Refusal 11 for an index that is not this listing's own: only one that was kept elsewhere can be.
+    /// [`Refusal::OutOfRange`] for an index that is not this listing's own: only one that was kept elsewhere can be.
     #[inline]
     pub fn get(&self, code: TroubleCode) -> Result<Option<(usize, Listed)>, Refusal> {
         let Listing { sub, message, .. } = self.listing;
@@ -288,8 +289,8 @@ impl<'a> Index<'a> {
 /// Writes a listing from records that are handed over (`CodeRecord::from` of a [`Listed`]).
 ///
 /// # Errors
-/// Refusal 12 for more than 4,096 records; 11 with the place of the first record whose severity is known where a listing of 0x02 is
-/// to be written, or unknown where one of 0x08 is; and last 7.
+/// [`Refusal::TooMany`] for more than 4,096 records; [`Refusal::OutOfRange`] with the place of the first record whose severity is known
+/// where a listing of 0x02 is to be written, or unknown where one of 0x08 is; and last [`Refusal::NoRoom`].
 ///
 /// ```
 /// use skrolvind::{CodeRecord, Listing, ListingSub, Refusal, write_listing};

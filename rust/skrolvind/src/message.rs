@@ -58,8 +58,9 @@ pub enum Message<'a> {
 /// Reads a whole message: its first byte says what it is.
 ///
 /// # Errors
-/// Refusal 1 for an empty message, 15 for a service byte that is none of the five; of a negative answer 1 when it is short, 9 when
-/// it is longer than three bytes, then 11 when it answers another service; of the others those of their own readers.
+/// [`Refusal::TooShort`] for an empty message, [`Refusal::UnknownService`] for a service byte that is none of the five; of a negative
+/// answer [`Refusal::TooShort`] when it is short, [`Refusal::LeftOver`] when it is longer than three bytes, then
+/// [`Refusal::OutOfRange`] when it answers another service; of the others those of their own readers.
 ///
 /// ```
 /// use skrolvind::{Message, NegativeAnswer, Refusal, Service, read_message};
@@ -142,7 +143,7 @@ fn negative(r: &flat::Message) -> NegativeAnswer {
 /// Writes a file transfer request behind its service byte.
 ///
 /// # Errors
-/// Refusals 2 and 7; the latter counts the service byte.
+/// [`Refusal::WrongFormat`] for a name that is too long, then [`Refusal::NoRoom`], which counts the service byte.
 ///
 /// ```
 /// use skrolvind::{Kind, Refusal, Request, write_request_message};
@@ -167,7 +168,7 @@ pub fn write_request_message(request: &Request<'_>, room: &mut [u8]) -> Result<u
 /// Writes a file transfer response behind its service byte.
 ///
 /// # Errors
-/// Refusals 2 and 7; the latter counts the service byte.
+/// [`Refusal::WrongFormat`] for a block length that is too long, then [`Refusal::NoRoom`], which counts the service byte.
 #[inline]
 pub fn write_response_message(response: &Response<'_>, room: &mut [u8]) -> Result<usize, Refusal> {
     count(flat::write_response_message(
@@ -183,7 +184,7 @@ pub fn write_response_message(response: &Response<'_>, room: &mut [u8]) -> Resul
 /// Writes a routine request behind its service byte.
 ///
 /// # Errors
-/// Refusals 2 and 7; the latter counts the service byte.
+/// [`Refusal::WrongFormat`] for a record that is too long, then [`Refusal::NoRoom`], which counts the service byte.
 #[inline]
 pub fn write_routine_request_message(
     request: &RoutineRequest<'_>,
@@ -201,7 +202,7 @@ pub fn write_routine_request_message(
 /// Writes a routine response behind its service byte.
 ///
 /// # Errors
-/// Refusals 2 and 7; the latter counts the service byte.
+/// [`Refusal::WrongFormat`] for a record that is too long, then [`Refusal::NoRoom`], which counts the service byte.
 #[inline]
 pub fn write_routine_response_message(
     response: &RoutineResponse<'_>,
@@ -218,7 +219,7 @@ pub fn write_routine_response_message(
 /// Writes a negative answer, whether the code is listed or not.
 ///
 /// # Errors
-/// Refusal 7.
+/// [`Refusal::NoRoom`].
 ///
 /// ```
 /// use skrolvind::{Refusal, Service, write_negative};

@@ -83,7 +83,7 @@ pub(crate) fn whole(high: u64, low: u64) -> u128 {
 /// Reads a file transfer request from the start of the message; hands out the request and the tail.
 ///
 /// # Errors
-/// Refusals 1, 2, 3 and 6.
+/// [`Refusal::TooShort`], [`Refusal::WrongFormat`], [`Refusal::UnknownMode`] and [`Refusal::BadWidth`].
 ///
 /// ```
 /// use skrolvind::{Kind, Refusal, read_request};
@@ -111,7 +111,7 @@ pub fn read_request(message: &[u8]) -> Result<(Request<'_>, &[u8]), Refusal> {
 /// Reads a file transfer response from the start of the message; hands out the response and the tail.
 ///
 /// # Errors
-/// Refusals 1, 3 and 6.
+/// [`Refusal::TooShort`], [`Refusal::UnknownMode`] and [`Refusal::BadWidth`].
 ///
 /// ```
 /// use skrolvind::{Kind, Refusal, read_response};
@@ -139,7 +139,7 @@ pub fn read_response(message: &[u8]) -> Result<(Response<'_>, &[u8]), Refusal> {
 /// Reads a routine request, which is the whole message.
 ///
 /// # Errors
-/// Refusals 1 and 4; the latter carries the low seven bits.
+/// [`Refusal::TooShort`], and [`Refusal::UnknownSubFunction`], which carries the low seven bits.
 ///
 /// ```
 /// use skrolvind::{Refusal, SubFunction, read_routine_request};
@@ -165,7 +165,7 @@ pub fn read_routine_request(message: &[u8]) -> Result<RoutineRequest<'_>, Refusa
 /// Reads a routine response, which is the whole message.
 ///
 /// # Errors
-/// Refusals 1 and 4.
+/// [`Refusal::TooShort`] and [`Refusal::UnknownSubFunction`].
 ///
 /// ```
 /// use skrolvind::{Refusal, SubFunction, read_routine_response};
@@ -190,7 +190,7 @@ pub fn read_routine_response(message: &[u8]) -> Result<RoutineResponse<'_>, Refu
 /// Judges one request at the desk.
 ///
 /// # Errors
-/// The refusals of [`read_request`], then 9 for bytes left over, then 8 for unequal sizes under format 0x00.
+/// The refusals of [`read_request`], then [`Refusal::LeftOver`], then [`Refusal::UnequalSizes`] under format 0x00.
 ///
 /// ```
 /// use skrolvind::{Refusal, desk_check};
@@ -269,8 +269,9 @@ pub fn valid_up_to(name: &[u8]) -> usize {
 /// A record is month, station, direction, refusal number, and the coach number in four bytes.
 ///
 /// # Errors
-/// Refusal 12 for more than 65,536 whole records, then 10 for a piece after the last one, then 11 with the place of the first
-/// record that has a field out of range: month 1 to 12, direction 0 or 1, refusal number 0 to 9.
+/// [`Refusal::TooMany`] for more than 65,536 whole records, then [`Refusal::Cut`] for a piece after the last one, then
+/// [`Refusal::OutOfRange`] with the place of the first record that has a field out of range: month 1 to 12, direction 0 or 1, refusal
+/// number 0 to 9.
 ///
 /// ```
 /// use skrolvind::{Refusal, tally_records};

@@ -20,7 +20,8 @@ fn state(r: &Replay) -> TransferState {
 /// Runs a log, records of 4 bytes each, through the rules: the state that it leads to. It may be empty, and may end open.
 ///
 /// # Errors
-/// Refusal 12 for more than 65,536 records, then 10 for a cut last one; then of the first bad record 15, 13 or 14, with its place.
+/// [`Refusal::TooMany`] for more than 65,536 records, then [`Refusal::Cut`] for a cut last one; then of the first bad record
+/// [`Refusal::UnknownService`], [`Refusal::NotAllowed`] or [`Refusal::WrongCounter`], with its place.
 ///
 /// ```
 /// use skrolvind::{Transfer, replay_log};
@@ -44,7 +45,8 @@ pub fn replay_log(log: &[u8]) -> Result<TransferState, Stopped> {
 /// and the state is then as it was.
 ///
 /// # Errors
-/// Refusals 15, 13 and 14, and 12 where repeats or total would pass 64 bits.
+/// [`Refusal::UnknownService`], [`Refusal::NotAllowed`] and [`Refusal::WrongCounter`], and [`Refusal::TooMany`] where repeats or
+/// total would pass 64 bits.
 ///
 /// ```
 /// use skrolvind::{LogRecord, Refusal, TransferState, replay_step};

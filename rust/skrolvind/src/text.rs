@@ -25,8 +25,8 @@ impl fmt::Display for TroubleCode {
     }
 }
 
-/// Takes exactly the eight characters that are displayed, capitals only. Refusal 18 with the place of the first character that cannot
-/// stand there; the end of the text counts as its length.
+/// Takes exactly the eight characters that are displayed, capitals only. [`Refusal::BadCharacter`] with the place of the first character
+/// that cannot stand there; the end of the text counts as its length.
 impl FromStr for TroubleCode {
     type Err = Refusal;
 
@@ -41,7 +41,7 @@ impl Listing<'_> {
     /// hex digits, and a line feed. Severity and functional unit are not carried. Answers how many bytes there are.
     ///
     /// # Errors
-    /// Refusal 7.
+    /// [`Refusal::NoRoom`].
     #[inline]
     pub fn export(&self, room: &mut [u8]) -> Result<usize, Refusal> {
         count(flat::export_listing(self.sub.into(), self.message, room))
@@ -52,8 +52,8 @@ impl Listing<'_> {
 /// listing without records.
 ///
 /// # Errors
-/// Refusal 18 with the place, in the whole text, of the first character that cannot stand there, the end of the text counting as its
-/// length; then 12 for more than 4,096 lines; then 7.
+/// [`Refusal::BadCharacter`] with the place, in the whole text, of the first character that cannot stand there, the end of the text
+/// counting as its length; then [`Refusal::TooMany`] for more than 4,096 lines; then [`Refusal::NoRoom`].
 ///
 /// ```
 /// use skrolvind::{Listing, ListingSub, Refusal, import_listing};

@@ -23,7 +23,7 @@ fn needed(answer: Result<usize, Refusal>) -> Result<usize, Refusal> {
 /// Writes a file transfer request, its sizes at the smallest width.
 ///
 /// # Errors
-/// Refusal 2 for a name that is too long, then 7.
+/// [`Refusal::WrongFormat`] for a name that is too long, then [`Refusal::NoRoom`].
 ///
 /// ```
 /// use skrolvind::{Kind, Refusal, Request, write_request};
@@ -50,7 +50,7 @@ pub fn write_request(request: &Request<'_>, room: &mut [u8]) -> Result<usize, Re
 /// Writes a file transfer response, its sizes at the smallest width.
 ///
 /// # Errors
-/// Refusal 2 for a block length that is too long, then 7.
+/// [`Refusal::WrongFormat`] for a block length that is too long, then [`Refusal::NoRoom`].
 ///
 /// ```
 /// use skrolvind::{Kind, Refusal, Response, write_response};
@@ -76,7 +76,7 @@ pub fn write_response(response: &Response<'_>, room: &mut [u8]) -> Result<usize,
 /// Writes a routine request.
 ///
 /// # Errors
-/// Refusal 2 for a record that is too long, then 7.
+/// [`Refusal::WrongFormat`] for a record that is too long, then [`Refusal::NoRoom`].
 ///
 /// ```
 /// use skrolvind::{Refusal, RoutineRequest, SubFunction, write_routine_request};
@@ -104,7 +104,7 @@ pub fn write_routine_request(
 /// Writes a routine response.
 ///
 /// # Errors
-/// Refusal 2 for a record that is too long, then 7.
+/// [`Refusal::WrongFormat`] for a record that is too long, then [`Refusal::NoRoom`].
 ///
 /// ```
 /// use skrolvind::{Refusal, RoutineResponse, SubFunction, write_routine_response};
@@ -139,7 +139,7 @@ fn rewritten(message: &[u8], r: Rewritten) -> Result<(usize, &[u8]), Refusal> {
 /// how many bytes it wrote, and the tail of the message.
 ///
 /// # Errors
-/// The refusals of [`read_request`](crate::read_request), then 7.
+/// The refusals of [`read_request`](crate::read_request), then [`Refusal::NoRoom`].
 ///
 /// ```
 /// use skrolvind::{Refusal, rewrite_request};
@@ -163,7 +163,7 @@ pub fn rewrite_request<'a>(
 /// Reads a file transfer response and writes it anew, likewise.
 ///
 /// # Errors
-/// The refusals of [`read_response`](crate::read_response), then 7.
+/// The refusals of [`read_response`](crate::read_response), then [`Refusal::NoRoom`].
 ///
 /// ```
 /// use skrolvind::{Refusal, rewrite_response};
@@ -187,7 +187,7 @@ impl Request<'_> {
     /// How many bytes [`write_request`] writes of it; with a service byte it is one more.
     ///
     /// # Errors
-    /// Refusal 2 for a name that is too long.
+    /// [`Refusal::WrongFormat`] for a name that is too long.
     ///
     /// ```
     /// use skrolvind::{Kind, Refusal, Request, write_request};
@@ -207,7 +207,7 @@ impl Response<'_> {
     /// How many bytes [`write_response`] writes of it; with a service byte it is one more.
     ///
     /// # Errors
-    /// Refusal 2 for a block length that is too long.
+    /// [`Refusal::WrongFormat`] for a block length that is too long.
     #[inline]
     pub fn needed(&self) -> Result<usize, Refusal> {
         needed(write_response(self, &mut []))
@@ -218,7 +218,7 @@ impl RoutineRequest<'_> {
     /// How many bytes [`write_routine_request`] writes of it; with a service byte it is one more.
     ///
     /// # Errors
-    /// Refusal 2 for a record that is too long.
+    /// [`Refusal::WrongFormat`] for a record that is too long.
     #[inline]
     pub fn needed(&self) -> Result<usize, Refusal> {
         needed(write_routine_request(self, &mut []))
@@ -229,7 +229,7 @@ impl RoutineResponse<'_> {
     /// How many bytes [`write_routine_response`] writes of it; with a service byte it is one more.
     ///
     /// # Errors
-    /// Refusal 2 for a record that is too long.
+    /// [`Refusal::WrongFormat`] for a record that is too long.
     #[inline]
     pub fn needed(&self) -> Result<usize, Refusal> {
         needed(write_routine_response(self, &mut []))
