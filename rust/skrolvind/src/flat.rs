@@ -509,6 +509,45 @@ pub mod c {
             room_len: usize,
         ) -> Changes;
     }
+
+    unsafe extern "C" {
+        pub fn skr_read_name(buffer: *const u8, buffer_len: usize) -> super::Part;
+        pub fn skr_read_block_length(buffer: *const u8, buffer_len: usize) -> super::Part;
+        pub fn skr_read_sizes(buffer: *const u8, buffer_len: usize) -> super::PartSizes;
+        pub fn skr_read_file_sizes(buffer: *const u8, buffer_len: usize) -> super::PartSizes;
+        pub fn skr_read_dir_size(buffer: *const u8, buffer_len: usize) -> super::PartSizes;
+        pub fn skr_read_position(buffer: *const u8, buffer_len: usize) -> super::PartPosition;
+        pub fn skr_write_name(
+            name: *const u8,
+            name_len: usize,
+            room: *mut u8,
+            room_len: usize,
+        ) -> Written;
+        pub fn skr_write_block_length(
+            block: *const u8,
+            block_len: usize,
+            room: *mut u8,
+            room_len: usize,
+        ) -> Written;
+        pub fn skr_write_sizes(
+            uncompressed_high: u64,
+            uncompressed_low: u64,
+            compressed_high: u64,
+            compressed_low: u64,
+            room: *mut u8,
+            room_len: usize,
+        ) -> Written;
+        pub fn skr_write_file_sizes(
+            uncompressed_high: u64,
+            uncompressed_low: u64,
+            compressed_high: u64,
+            compressed_low: u64,
+            room: *mut u8,
+            room_len: usize,
+        ) -> Written;
+        pub fn skr_write_dir_size(high: u64, low: u64, room: *mut u8, room_len: usize) -> Written;
+        pub fn skr_write_position(position: u64, room: *mut u8, room_len: usize) -> Written;
+    }
 }
 
 // Every block below is sound for one reason: a Rust slice is a pointer and a length that belong together, the functions read and
@@ -912,4 +951,141 @@ pub fn listing_changes(first: (u8, &[u8]), second: (u8, &[u8]), room: &mut [u8])
     let (r, r_len) = (room.as_mut_ptr(), room.len());
     // SAFETY: each pointer stands with its own slice's length, and none of the other two overlaps the room.
     unsafe { c::skr_listing_changes(a_sub, a, a_len, b_sub, b, b_len, r, r_len) }
+}
+
+/// A name or a block length that was read from the start of a buffer: its place, and where the part ends.
+#[repr(C)]
+#[derive(Clone, Copy, Debug, Default, PartialEq, Eq)]
+pub struct Part {
+    pub number: u64,
+    pub first: u64,
+    pub second: u64,
+    pub start: u64,
+    pub len: u64,
+    pub tail: u64,
+}
+
+/// The sizes at the start of a buffer, in halves, and where they end (`skr_sizes`).
+#[repr(C)]
+#[derive(Clone, Copy, Debug, Default, PartialEq, Eq)]
+pub struct PartSizes {
+    pub number: u64,
+    pub first: u64,
+    pub second: u64,
+    pub uncompressed_high: u64,
+    pub uncompressed_low: u64,
+    pub compressed_high: u64,
+    pub compressed_low: u64,
+    pub tail: u64,
+}
+
+/// The position at the start of a buffer, and where it ends (`skr_position`).
+#[repr(C)]
+#[derive(Clone, Copy, Debug, Default, PartialEq, Eq)]
+pub struct PartPosition {
+    pub number: u64,
+    pub first: u64,
+    pub second: u64,
+    pub position: u64,
+    pub tail: u64,
+}
+
+/// `skr_read_name`.
+#[must_use]
+#[inline]
+pub fn read_name(buffer: &[u8]) -> Part {
+    // SAFETY: the pointer and the length are those of one slice.
+    unsafe { c::skr_read_name(buffer.as_ptr(), buffer.len()) }
+}
+
+/// `skr_read_block_length`.
+#[must_use]
+#[inline]
+pub fn read_block_length(buffer: &[u8]) -> Part {
+    // SAFETY: the pointer and the length are those of one slice.
+    unsafe { c::skr_read_block_length(buffer.as_ptr(), buffer.len()) }
+}
+
+/// `skr_read_sizes`.
+#[must_use]
+#[inline]
+pub fn read_sizes(buffer: &[u8]) -> PartSizes {
+    // SAFETY: the pointer and the length are those of one slice.
+    unsafe { c::skr_read_sizes(buffer.as_ptr(), buffer.len()) }
+}
+
+/// `skr_read_file_sizes`.
+#[must_use]
+#[inline]
+pub fn read_file_sizes(buffer: &[u8]) -> PartSizes {
+    // SAFETY: the pointer and the length are those of one slice.
+    unsafe { c::skr_read_file_sizes(buffer.as_ptr(), buffer.len()) }
+}
+
+/// `skr_read_dir_size`.
+#[must_use]
+#[inline]
+pub fn read_dir_size(buffer: &[u8]) -> PartSizes {
+    // SAFETY: the pointer and the length are those of one slice.
+    unsafe { c::skr_read_dir_size(buffer.as_ptr(), buffer.len()) }
+}
+
+/// `skr_read_position`.
+#[must_use]
+#[inline]
+pub fn read_position(buffer: &[u8]) -> PartPosition {
+    // SAFETY: the pointer and the length are those of one slice.
+    unsafe { c::skr_read_position(buffer.as_ptr(), buffer.len()) }
+}
+
+/// `skr_write_name`.
+#[inline]
+pub fn write_name(name: &[u8], room: &mut [u8]) -> Written {
+    let (n, n_len) = (name.as_ptr(), name.len());
+    let (r, r_len) = (room.as_mut_ptr(), room.len());
+    // SAFETY: each pointer stands with its own slice's length, and the two slices do not overlap.
+    unsafe { c::skr_write_name(n, n_len, r, r_len) }
+}
+
+/// `skr_write_block_length`.
+#[inline]
+pub fn write_block_length(block: &[u8], room: &mut [u8]) -> Written {
+    let (b, b_len) = (block.as_ptr(), block.len());
+    let (r, r_len) = (room.as_mut_ptr(), room.len());
+    // SAFETY: each pointer stands with its own slice's length, and the two slices do not overlap.
+    unsafe { c::skr_write_block_length(b, b_len, r, r_len) }
+}
+
+/// `skr_write_sizes`.
+#[inline]
+pub fn write_sizes(s: Sizes, room: &mut [u8]) -> Written {
+    let (r, r_len) = (room.as_mut_ptr(), room.len());
+    let (uh, ul) = (s.uncompressed_high, s.uncompressed_low);
+    let (ch, cl) = (s.compressed_high, s.compressed_low);
+    // SAFETY: the pointer and the length are those of one slice.
+    unsafe { c::skr_write_sizes(uh, ul, ch, cl, r, r_len) }
+}
+
+/// `skr_write_file_sizes`.
+#[inline]
+pub fn write_file_sizes(s: Sizes, room: &mut [u8]) -> Written {
+    let (r, r_len) = (room.as_mut_ptr(), room.len());
+    let (uh, ul) = (s.uncompressed_high, s.uncompressed_low);
+    let (ch, cl) = (s.compressed_high, s.compressed_low);
+    // SAFETY: the pointer and the length are those of one slice.
+    unsafe { c::skr_write_file_sizes(uh, ul, ch, cl, r, r_len) }
+}
+
+/// `skr_write_dir_size`.
+#[inline]
+pub fn write_dir_size(high: u64, low: u64, room: &mut [u8]) -> Written {
+    // SAFETY: the pointer and the length are those of one slice.
+    unsafe { c::skr_write_dir_size(high, low, room.as_mut_ptr(), room.len()) }
+}
+
+/// `skr_write_position`.
+#[inline]
+pub fn write_position(position: u64, room: &mut [u8]) -> Written {
+    // SAFETY: the pointer and the length are those of one slice.
+    unsafe { c::skr_write_position(position, room.as_mut_ptr(), room.len()) }
 }
