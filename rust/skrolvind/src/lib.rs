@@ -3,6 +3,9 @@
 #![warn(missing_docs)]
 #![deny(unsafe_code)]
 
+#[cfg(feature = "alloc")]
+extern crate alloc;
+
 mod batch;
 mod changes;
 mod codes;
@@ -19,6 +22,7 @@ mod severity;
 mod tests;
 mod text;
 mod types;
+pub mod uds_protocol;
 mod write;
 
 pub use batch::*;

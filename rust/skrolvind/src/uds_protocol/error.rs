@@ -1,0 +1,142 @@
+//! Why something is refused, by the original's names.
+use crate::Refusal;
+use core::fmt;
+
+/// A field has fewer bytes than it needs.
+#[derive(Clone, Copy, Debug, PartialEq, Eq)]
+pub struct Incomplete {
+    /// How many it needs.
+    pub needed: usize,
+    /// How many there are.
+    pub available: usize,
+}
+
+/// A size is 1 to 16 bytes wide, and this one is not.
+#[derive(Clone, Copy, Debug, PartialEq, Eq)]
+pub struct InvalidWidth {
+    /// How wide it is said to be.
+    pub width: usize,
+}
+
+/// Bytes are left over where a value has to be the whole buffer.
+#[derive(Clone, Copy, Debug, PartialEq, Eq)]
+pub struct TrailingBytes {
+    /// How many.
+    pub count: usize,
+}
+
+/// The sink has less room than what is to be written; nothing was written.
+#[derive(Clone, Copy, Debug, PartialEq, Eq)]
+pub struct NoRoom {
+    /// How many bytes are to be written.
+    pub needed: usize,
+    /// How many the sink has.
+    pub room: usize,
+}
+
+/// Why something is refused.
+///
+/// The original's own file of errors was not at hand. The variants that its other files name have their names here;
+/// `InvalidWidth`, `TrailingBytes` and `Io` are named after its types and its constructor, and `Refused` is ours.
+#[derive(Clone, Copy, Debug, PartialEq, Eq)]
+#[non_exhaustive]
+pub enum Error {
+    /// Refusal 1: a field has fewer bytes than it needs.
+    InsufficientData(Incomplete),
+    /// Refusal 2: the name is not UTF-8, or something is too long.
+    IncorrectMessageLengthOrInvalidFormat,
+    /// Refusal 3: no file operation has this number.
+    InvalidFileOperationMode(u8),
+    /// Refusal 4: no routine sub-function has this number.
+    InvalidRoutineControlSubFunction(u8),
+    /// Refusal 5: no trouble code has this number.
+    InvalidDtcRecord(u32),
+    /// Refusal 6: a size is 1 to 16 bytes wide.
+    InvalidWidth(InvalidWidth),
+    /// A compression or encryption method that is no half of a byte.
+    InvalidEncryptionCompressionMethod(u8),
+    /// Refusal 9: bytes are left over.
+    TrailingBytes(TrailingBytes),
+    /// Refusal 7: the sink has too little room.
+    Io(NoRoom),
+    /// Any other refusal of the library; no call of this module answers it.
+    Refused(Refusal),
+}
+
+/// A number that a refusal carries, which is as small as what it tells of.
+fn small<T: TryFrom<u64>>(number: u64) -> T {
+    crate::read::as_small(number)
+}
+
+impl From<Refusal> for Error {
+    fn from(refusal: Refusal) -> Self {
+        let (number, first, second) = (refusal.number, refusal.first, refusal.second);
+        match number {
+            1 => Self::InsufficientData(Incomplete {
+                needed: small(first),
+                available: small(second),
+            }),
+            2 => Self::IncorrectMessageLengthOrInvalidFormat,
+            3 => Self::InvalidFileOperationMode(small(first)),
+            4 => Self::InvalidRoutineControlSubFunction(small(first)),
+            5 => Self::InvalidDtcRecord(small(first)),
+            6 => Self::InvalidWidth(InvalidWidth {
+                width: small(first),
+            }),
+            7 => Self::Io(NoRoom {
+                needed: small(first),
+                room: small(second),
+            }),
+            9 => Self::TrailingBytes(TrailingBytes {
+                count: small(first),
+            }),
+            _ => Self::Refused(refusal),
+        }
+    }
+}
+
+impl From<TrailingBytes> for Error {
+    fn from(left_over: TrailingBytes) -> Self {
+        Self::TrailingBytes(left_over)
+    }
+}
+
+impl fmt::Display for Error {
+    fn fmt(&self, f: &mut fmt::Formatter<'_>) -> fmt::Result {
+        match self {
+            Self::InsufficientData(Incomplete { needed, available }) => {
+                write!(f, "a field needs {needed} bytes and has {available}")
+            }
+            Self::IncorrectMessageLengthOrInvalidFormat => {
+                f.write_str("the name is not UTF-8, or something is too long")
+            }
+            Self::InvalidFileOperationMode(byte) => {
+                write!(f, "no file operation has the number {byte:#04X}")
+            }
+            Self::InvalidRoutineControlSubFunction(byte) => {
+                write!(f, "no routine sub-function has the number {byte:#04X}")
+            }
+            Self::InvalidDtcRecord(number) => {
+                write!(f, "no trouble code has the number {number:#010X}")
+            }
+            Self::InvalidWidth(InvalidWidth { width }) => {
+                write!(f, "a size is 1 to 16 bytes wide, not {width}")
+            }
+            Self::InvalidEncryptionCompressionMethod(method) => {
+                write!(f, "the method {method:#04X} is no half of a byte")
+            }
+            Self::TrailingBytes(TrailingBytes { count }) => {
+                write!(f, "{count} bytes are left over")
+            }
+            Self::Io(NoRoom { needed, room }) => {
+                write!(
+                    f,
+                    "{needed} bytes are to be written and there is room for {room}"
+                )
+            }
+            Self::Refused(refusal) => refusal.fmt(f),
+        }
+    }
+}
+
+impl core::error::Error for Error {}
