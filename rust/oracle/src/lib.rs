@@ -22,15 +22,23 @@ pub(crate) mod original {
     include!(concat!(env!("OUT_DIR"), "/format_identifiers.rs"));
 }
 
-/// The original's own types and calls, for those who time it and want no translation of its answers on the way.
+/// The original's own types and calls, under the names that they have in the root of its crate: for those who time it, or hold it
+/// to something, and want no translation of its answers on the way.
 pub mod itself {
-    pub use crate::missing::Error;
+    pub use crate::missing::{Error, NegativeResponseCode};
+    pub use crate::original::format_identifiers::DataFormatIdentifier;
     pub use crate::original::request_file_transfer::{
-        NamePayload, RequestFileTransferRequest, RequestFileTransferResponse,
+        DirSizePayload, FileOperationMode, FileSizePayload, NamePayload, PositionPayload,
+        RequestFileTransferRequest, RequestFileTransferResponse, SentDataPayload, SizePayload,
     };
-    pub use crate::original::routine_control::{RoutineControlRequest, RoutineControlResponse};
-    pub use crate::original::status::DtcRecord;
-    pub use automotive_wire_codec::{Decode, DecodeIter, Encode};
+    pub use crate::original::routine_control::{
+        RoutineControlRequest, RoutineControlResponse, RoutineControlSubFunction,
+    };
+    pub use crate::original::status::{
+        CLEAR_ALL_DTCS, DtcFormatIdentifier, DtcRecord, DtcSeverityMask, DtcStatusMask,
+        DtcStoredDataRecordNumber, FunctionalGroupIdentifier,
+    };
+    pub use automotive_wire_codec::{Decode, DecodeIter, Encode, Incomplete, InvalidWidth};
 }
 
 /// What the original files look for under this name.

@@ -1,0 +1,5 @@
+//! The checks over the original files.
+use oracle::itself as uds_protocol;
+
+#[path = "../checks/mod.rs"]
+mod checks;
