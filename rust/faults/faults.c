@@ -1,4 +1,4 @@
-/* One fault at a time in front of the library, to see that the comparison finds it: SKROLVIND_FAULT is its number, 1 to 145; with 0 there is none.
+/* One fault at a time in front of the library, to see that the comparison finds it: SKROLVIND_FAULT is its number, 1 to 169; with 0 there is none.
  * Each function calls the library's own, which `try` has given the prefix real_, and spoils the answer. `try` counts the lines that have FAULT ==. */
 #include <stdlib.h>
 #include <string.h>
@@ -394,3 +394,78 @@ DOOR(skr_changes, skr_listing_changes,
      if (FAULT == 138 && c.number == 7 && rn >= 6) r[0] = 1;                /* an entry is written before the room is judged */
      if (FAULT == 139 && !c.number && c.written && m[2] == k[2]) c.written -= 6; /* the last entry is lost where the masks are equal */
      return c;)
+
+/* A width or a length in two bytes. */
+#define WIDTH(b) (256u * (b)[0] + (b)[1])
+
+DOOR(skr_part, skr_read_name, (const uint8_t *b, size_t n),
+     skr_part r = real_skr_read_name(b, n);
+     if (FAULT == 146 && r.number == 1 && n >= 2) r.first -= 2;             /* what a name needs does not count its length */
+     if (FAULT == 147 && r.number == 2) { r.number = 0; r.first = 0; r.start = 2; r.len = WIDTH(b); r.tail = 2 + r.len; } /* a name is not judged */
+     if (FAULT == 148 && r.number == 2) r.first += 2;                       /* where a name goes bad is counted from its length */
+     return r;)
+
+DOOR(skr_part, skr_read_block_length, (const uint8_t *b, size_t n),
+     skr_part r = real_skr_read_block_length(b, n);
+     if (FAULT == 149 && r.len == 255) r.tail -= 1;                         /* the tail is off by one, at the longest */
+     if (FAULT == 150 && r.len > 1 && b[1] == 0) { r.start++; r.len--; }    /* a zero is trimmed off the block length */
+     return r;)
+
+DOOR(skr_sizes, skr_read_sizes, (const uint8_t *b, size_t n),
+     skr_sizes r = real_skr_read_sizes(b, n);
+     skr_sizes s = r;
+     if (FAULT == 151) { r.uncompressed_high = s.compressed_high; r.uncompressed_low = s.compressed_low; r.compressed_high = s.uncompressed_high; r.compressed_low = s.uncompressed_low; } /* the sizes are exchanged */
+     if (FAULT == 152 && !r.number && b[0] == 16) r.compressed_high &= 0xFFFFFFFFFFFFFF; /* the last size loses its highest byte, at width 16 */
+     return r;)
+
+DOOR(skr_sizes, skr_read_file_sizes, (const uint8_t *b, size_t n),
+     skr_sizes r = real_skr_read_file_sizes(b, n);
+     if (FAULT == 153 && n > 1 && b[0]) r = real_skr_read_sizes(b + 1, n - 1); /* a one-byte width */
+     if (FAULT == 154 && r.number == 1 && n > 1 && WIDTH(b) > 16) { r.number = 6; r.first = WIDTH(b); r.second = 0; } /* 6 before 1 */
+     return r;)
+
+DOOR(skr_sizes, skr_read_dir_size, (const uint8_t *b, size_t n),
+     skr_sizes r = real_skr_read_dir_size(b, n);
+     if (FAULT == 155) { r.compressed_high = r.uncompressed_high; r.compressed_low = r.uncompressed_low; } /* the one size is told twice */
+     if (FAULT == 156 && r.number == 1 && n > 1) r.first = 2 + 2 * WIDTH(b); /* two sizes are needed where there is one */
+     return r;)
+
+DOOR(skr_position, skr_read_position, (const uint8_t *b, size_t n),
+     skr_position r = real_skr_read_position(b, n);
+     if (FAULT == 157 && !r.number) r.tail = n;                             /* what follows a position is passed over */
+     if (FAULT == 158 && r.number) r.tail = n;                              /* a field is set after a refusal */
+     return r;)
+
+DOOR(skr_written, skr_write_name, (const uint8_t *a, size_t an, uint8_t *r, size_t rn),
+     skr_written w = real_skr_write_name(a, an, r, rn);
+     if (FAULT == 159 && w.number == 2 && an < 65536 && rn < an + 2) { w.number = 7; w.first = an + 2; w.second = rn; } /* 7 before 2 */
+     if (FAULT == 160 && an > 65535 && rn > 65537) memcpy(r + 2, a, 65535); /* an over-long name is refused when it is written already */
+     return w;)
+
+DOOR(skr_written, skr_write_block_length, (const uint8_t *a, size_t an, uint8_t *r, size_t rn),
+     skr_written w = real_skr_write_block_length(a, an, r, rn);
+     if (FAULT == 161 && w.number == 7) w.first -= 1;                       /* what is needed does not count the count */
+     if (FAULT == 162 && w.number == 7 && rn > 0) r[0] = (uint8_t)an;       /* the count is put into a room that is too small */
+     return w;)
+
+DOOR(skr_written, skr_write_sizes, (uint64_t uh, uint64_t ul, uint64_t ch, uint64_t cl, uint8_t *r, size_t rn),
+     if (FAULT == 163) return real_skr_write_sizes(ch, cl, uh, ul, r, rn);  /* the sizes are exchanged */
+     skr_written w = real_skr_write_sizes(uh, ul, ch, cl, r, rn);
+     if (FAULT == 164 && w.number == 0 && w.written < rn) r[w.written] = 0; /* one byte more is written */
+     return w;)
+
+DOOR(skr_written, skr_write_file_sizes, (uint64_t uh, uint64_t ul, uint64_t ch, uint64_t cl, uint8_t *r, size_t rn),
+     if (FAULT == 165 && rn > 2 && rn < 8 && (ul > 0xFFFF || cl > 0xFFFF)) r[0] = 0; /* the room is partly filled before the refusal */
+     skr_written w = real_skr_write_file_sizes(uh, ul, ch, cl, r, rn);
+     if (FAULT == 166 && w.written == 4) return real_skr_write_sizes(uh, ul, ch, cl, r, rn); /* a one-byte width where it is 1 */
+     return w;)
+
+DOOR(skr_written, skr_write_dir_size, (uint64_t h, uint64_t l, uint8_t *r, size_t rn),
+     if (FAULT == 167) h &= 0xFFFFFFFFu;                                    /* a size is cut to 96 bits */
+     return real_skr_write_dir_size(h, l, r, rn);)
+
+DOOR(skr_written, skr_write_position, (uint64_t p, uint8_t *r, size_t rn),
+     skr_written w = real_skr_write_position(p, r, rn);
+     if (FAULT == 168 && w.number == 7) w.second = 0;                       /* the room is not told */
+     if (FAULT == 169 && !w.number && p >> 63) r[0] &= 0x7F;                /* a position is taken for a number with a sign */
+     return w;)

@@ -18,6 +18,7 @@ mod message;
 mod model;
 mod names;
 mod null;
+mod parts;
 mod random;
 mod read;
 mod record;
@@ -69,6 +70,8 @@ fn main() {
     step(b, "what is made of a byte, or of two", items::of_bytes);
     step(b, "trouble codes and their fields", items::trouble_codes);
     step(b, "payloads", items::payloads);
+    step(b, "parts read", parts::read);
+    step(b, "parts written", parts::written);
     step(b, "names of 4 and 5 chosen bytes", sweep::names);
     step(b, "trouble-code numbers", sweep::numbers);
     step(b, "requests for the desk", desk::requests);
@@ -131,6 +134,7 @@ fn random_rounds(bench: &mut Bench, seed: u64, end: Instant) {
     let mut listed = Rng::new(seed.rotate_left(32) ^ 9);
     let mut lines = Rng::new(seed.rotate_left(32) ^ 12);
     let mut changed = Rng::new(seed.rotate_left(32) ^ 11);
+    let mut parts = Rng::new(seed.rotate_left(32) ^ 30);
     loop {
         random::round(bench, &mut rng);
         replays::round(bench, &mut logs);
@@ -140,6 +144,7 @@ fn random_rounds(bench: &mut Bench, seed: u64, end: Instant) {
         listings::round(bench, &mut listed);
         texts::round(bench, &mut lines);
         changes::round(bench, &mut changed);
+        parts::round(bench, &mut parts);
         if let Some(recorder) = &mut bench.recorder {
             recorder.end();
         }

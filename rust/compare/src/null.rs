@@ -26,6 +26,7 @@ pub fn pointers(bench: &mut Bench) {
             c::skr_refusal_text(number, r, k)
         });
     }
+    parts(bench);
     // SAFETY (of every block below): each pointer stands with the length of what it points to, or with the length 0.
     writer(bench, Call::RewriteRequest, |m, n, r, k| unsafe {
         c::skr_rewrite_request(m, n, r, k)
@@ -289,4 +290,67 @@ fn lent<T>(
         contents.as_mut_ptr()
     };
     (write(part_pointer, part, room_pointer, room), contents)
+}
+
+/// The doors of parts.
+fn parts(bench: &mut Bench) {
+    let (null, none) = (null::<u8>(), &[]);
+    reader(
+        bench,
+        Call::ReadName,
+        unsafe { c::skr_read_name(null, 0) },
+        flat::read_name(none),
+    );
+    reader(
+        bench,
+        Call::ReadBlockLength,
+        unsafe { c::skr_read_block_length(null, 0) },
+        flat::read_block_length(none),
+    );
+    reader(
+        bench,
+        Call::ReadSizes,
+        unsafe { c::skr_read_sizes(null, 0) },
+        flat::read_sizes(none),
+    );
+    reader(
+        bench,
+        Call::ReadFileSizes,
+        unsafe { c::skr_read_file_sizes(null, 0) },
+        flat::read_file_sizes(none),
+    );
+    reader(
+        bench,
+        Call::ReadDirSize,
+        unsafe { c::skr_read_dir_size(null, 0) },
+        flat::read_dir_size(none),
+    );
+    reader(
+        bench,
+        Call::ReadPosition,
+        unsafe { c::skr_read_position(null, 0) },
+        flat::read_position(none),
+    );
+    parts_written(bench);
+}
+
+fn parts_written(bench: &mut Bench) {
+    writer(bench, Call::WriteName, |p, n, r, k| unsafe {
+        c::skr_write_name(p, n, r, k)
+    });
+    writer(bench, Call::WriteBlockLength, |p, n, r, k| unsafe {
+        c::skr_write_block_length(p, n, r, k)
+    });
+    writer(bench, Call::WriteSizes, |_, _, r, k| unsafe {
+        c::skr_write_sizes(0, 255, 0, 256, r, k)
+    });
+    writer(bench, Call::WriteFileSizes, |_, _, r, k| unsafe {
+        c::skr_write_file_sizes(0, 255, 0, 256, r, k)
+    });
+    writer(bench, Call::WriteDirSize, |_, _, r, k| unsafe {
+        c::skr_write_dir_size(0, 255, r, k)
+    });
+    writer(bench, Call::WritePosition, |_, _, r, k| unsafe {
+        c::skr_write_position(7, r, k)
+    });
 }

@@ -43,9 +43,21 @@ pub enum Call {
     ExportListing,
     ImportListing,
     ListingChanges,
+    ReadName,
+    ReadBlockLength,
+    ReadSizes,
+    ReadFileSizes,
+    ReadDirSize,
+    ReadPosition,
+    WriteName,
+    WriteBlockLength,
+    WriteSizes,
+    WriteFileSizes,
+    WriteDirSize,
+    WritePosition,
 }
 
-const CALLS: [&str; 39] = [
+const CALLS: [&str; 51] = [
     "requests read",
     "responses read",
     "routine requests read",
@@ -85,6 +97,18 @@ const CALLS: [&str; 39] = [
     "listings exported as text",
     "listings imported from text",
     "changes between two listings",
+    "names read by themselves",
+    "block lengths read by themselves",
+    "sizes of requests read by themselves",
+    "sizes of responses read by themselves",
+    "sizes of directories read by themselves",
+    "positions read by themselves",
+    "names written by themselves",
+    "block lengths written by themselves",
+    "sizes of requests written by themselves",
+    "sizes of responses written by themselves",
+    "sizes of directories written by themselves",
+    "positions written by themselves",
 ];
 
 /// What no door leads to, in the order of the letters that the recorded list has for it.

@@ -151,9 +151,10 @@ pub fn byte_fields_written(byte: u8) -> [Vec<u8>; 4] {
 
 /// What a value writes into plenty of room.
 fn written(value: &impl Encode<Error = Error>) -> Vec<u8> {
-    let mut room = [0; 600];
+    let mut room = vec![0; 66_000];
     let count = write(value, &mut room).expect("there is plenty of room");
-    room[..count].to_vec()
+    room.truncate(count);
+    room
 }
 
 /// The three bytes of a trouble code, and its number by each way to it.
