@@ -122,8 +122,7 @@ fn record_numbers() {
         is(&number, &[byte]);
     }
     refused::<RecordNumber>(&[], short(1, 0));
-    const RESERVED: bool = RecordNumber::new(0).is_reserved();
-    assert!(RESERVED);
+    const { assert!(RecordNumber::new(0).is_reserved()) }
 }
 
 #[test]

@@ -1,6 +1,7 @@
 //! What holds of the original and of ours; which of the two it is, `crate::uds_protocol` says.
 mod bytes;
 mod codes;
+mod example;
 mod payloads;
 mod requests;
 mod responses;
