@@ -1,4 +1,4 @@
-// Reads one request from standard input, to its end, and prints what the desk says of it.
+// Reads one file transfer request from standard input, to its end, and prints what the desk says of it: `passes`, the refusal or `too long`.
 use desk_line::desk_text;
 
 fn main() {

@@ -1,4 +1,4 @@
-// Prints what changed between two listings, a line to an entry. Its two arguments name the files that hold them, the old one first.
+// Prints what changed between two trouble-code listings, a line to an entry; its two arguments name the files that hold them, the old one first.
 use changes_text::changes_text;
 use changes_text::usage_text;
 

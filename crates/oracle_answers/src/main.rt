@@ -1,4 +1,4 @@
-// Goes through a recorded list of the original's answers, in the file that its first argument names: makes each call anew, and prints the lines that differ.
+// Goes through a recorded list of the original's answers, in the file that its first argument names: makes each call anew, and prints the lines that differ, and how many there are.
 mod count;
 mod hex;
 mod line;

@@ -1,4 +1,4 @@
-// Reads one whole message from standard input, to its end, and prints one line about it.
+// Reads one whole message, with its service byte, from standard input, to its end, and prints one line about it.
 use message_line::text::message_text;
 
 // The buffer holds more than a message may have, so that a longer input is seen to be too long.

@@ -1,4 +1,4 @@
-// Reads one request from standard input, to its end, and prints one line about it.
+// Reads one file transfer request from standard input, to its end, and prints one line about it.
 use request_line::text::line_text;
 
 // The buffer holds more than a message may have, so that a longer input is seen to be too long.

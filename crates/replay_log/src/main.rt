@@ -1,4 +1,4 @@
-// Reads a log of up to 65,536 records from standard input, and prints the state that it leads to; of a log that is refused the refusal, and then the state before it.
+// Reads the log of a transfer, up to 65,536 records, from standard input, and prints the state that it leads to; of a log that is refused the refusal, and then the state before it.
 use replay_line::replay_text;
 
 fn main() {

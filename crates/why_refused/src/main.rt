@@ -1,5 +1,4 @@
-// Reads one message from standard input, to its end, and prints why it is refused, or that it is accepted. Its one argument says whether the message is a
-// request or a response.
+// Reads one file transfer message from standard input, to its end, and prints why it is refused, or that it is accepted; its one argument is `request` or `response`.
 use reason_line::sort::Sort;
 use reason_line::sort::SortAnswer;
 use reason_line::sort::sort_named;

@@ -1,4 +1,4 @@
-// Reads the year's records from standard input, to its end, and prints a line for each month that has any.
+// Reads the year's records from standard input, to its end, and prints a line for each month that has any: month, all, refused, and how many of a hundred.
 use loads_text::loads_text;
 
 fn main() {
