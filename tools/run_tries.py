@@ -70,8 +70,6 @@ STATUSES = [
     (1, "oracle_answers README.md", b""),
     (2, "oracle_answers no-such-file", b""),
     (2, "oracle_answers", b""),
-    (2, "no_such_program", b""),
-    (2, "../crates/desk", REQUEST),
     (2, "", b""),
     (0, "--list", b""),
     (0, "--help", b""),
@@ -94,6 +92,7 @@ SAYINGS = [
     (0, "echo accepted; echo refused 1 2 3; echo too long"),
     (0, r"printf '\nrefused 1 2 3\n'"),
     (0, r"printf '\0refused 1 2 3\n'"),
+    (0, r"printf '\0'"),
     (0, r"printf 'refu\0sed 1 2 3\n'"),
     (0, "echo refused 1 2 3 >&2"),
 ]
@@ -103,6 +102,7 @@ OWN_SAYINGS = [
     (1, "import_listing", "echo refused 18 0 0 >&2"),
     (1, "import_listing", "echo too long >&2"),
     (2, "import_listing", "echo usage: >&2"),
+    (2, "import_listing", r"printf '\0' >&2"),
     (0, "import_listing", "echo refused 1 2 3"),
     (2, "why_refused", "echo usage: >&2"),
     (2, "listing_changes", "echo usage: >&2"),
@@ -167,18 +167,25 @@ def statuses(repo):
         yield f"the status of {program} with files that are not there", str(ended(repo, [program, "no-such-file", "no-such-file"])[0]), "2"
 
 
+def purpose(path):
+    """The name of the program that has this main, and the sentence at its top."""
+    with open(path, encoding="utf-8") as handle:
+        first = handle.readline().rstrip("\n")
+    return path.split(os.sep)[-3], first[3:] if first.startswith("// ") and first.endswith(".") else "(its main.rt does not begin with a sentence)"
+
+
 def lists(repo):
-    """Every program, with the first line of its main as a sentence."""
-    expected = []
-    for path in sorted(glob.glob(os.path.join(repo, "crates", "*", "src", "main.rt")), key=lambda path: path.split(os.sep)[-3]):
-        with open(path, encoding="utf-8") as handle:
-            first = handle.readline().rstrip("\n")
-        sentence = first[3:] if first.startswith("// ") and first.endswith(".") else "(its main.rt does not begin with a sentence)"
-        expected.append(f"{path.split(os.sep)[-3]:<22} {sentence}\n")
-    yield "./run --list", ended(repo, ["--list"])[1].decode(), "".join(expected)
+    """Every program, with what it is for: as `run` lists it, and as README.md has it."""
+    purposes = sorted(map(purpose, glob.glob(os.path.join(repo, "crates", "*", "src", "main.rt"))))
+    yield "./run --list", ended(repo, ["--list"])[1].decode(), "".join(f"{name:<22} {sentence}\n" for name, sentence in purposes)
+    with open(os.path.join(repo, "README.md"), encoding="utf-8") as handle:
+        table = handle.read().partition("| Program | What it takes, and what it prints |\n|---|---|\n")[2].partition("\n\n")[0]
+    yield "README.md's table of programs", table, "\n".join(f"| `{name}` | {sentence} |" for name, sentence in purposes)
     usage = ended(repo, ["--help"])[1]
     yield "./run alone says on standard error what --help says", str(ended(repo, [])[1:] == (b"", usage)), "True"
     yield "the usage names --list", str(b"./run --list" in usage), "True"
+    for name in ("no_such_program", "../crates/desk", "--lists"):
+        yield f"./run {name}", str(ended(repo, [name])), str((2, b"", f"run: there is no program '{name}'\n".encode() + usage))
 
 
 def by_hex(repo):
@@ -201,7 +208,7 @@ def stand_ins(folder, repo, machine):
     scripts = {f"target/bin/{name}": doing.get(name, 'eval "$1"') for name in programs}
     scripts["fake/uname"] = f"echo {machine}"
     scripts["fake/rt"] = f"echo {folder}/docs/START-HERE.md"
-    scripts["on/aarch64/toolchain/bin/qemu-x86_64"] = '[ "$2" = --library-path ] && shift 3 && exec "$@"'
+    scripts["on/aarch64/toolchain/bin/qemu-x86_64"] = '[ "$2" = --library-path ] && shift 3 && machine=emulated exec "$@"'
     for path, text in scripts.items():
         path = os.path.join(folder, path)
         os.makedirs(os.path.dirname(path), exist_ok=True)
@@ -231,7 +238,7 @@ def hex_texts(folder, env):
 
 def untouched(folder, env):
     """What a program says comes through as it is, and so does how it ends."""
-    blob = os.urandom(1_000_000)
+    blob = bytes(range(256)) * 4_000
     for name in ("any", "import_listing"):
         yield f"a million bytes of {name}", str(ended(folder, [name, "cat"], blob, env=env) == (0, blob, b"")), "True"
         both = ended(folder, [name, "echo to output; echo to error >&2"], env=env)[1:]
@@ -253,6 +260,7 @@ def shell(folder, env, command):
 def readers(folder, env):
     """What reads an answer may go away, may be full, may not be there; and it gets each piece when it is printed."""
     yield "the reader goes away", shell(folder, env, "./run any 'seq 1000000' | head -n 1"), f"1\n{128 + signal.SIGPIPE}\n"
+    yield "the reader is gone before the answer comes", shell(folder, env, "./run any 'sleep 0.5; echo a' | true"), f"{128 + signal.SIGPIPE}\n"
     yield "the reader goes away after a short answer", shell(folder, env, "./run any 'echo refused 1 2 3' | head -n 1"), "refused 1 2 3\n1\n"
     yield "the reader is full", str(shell(folder, env, "./run any 'echo a' >/dev/full").endswith("run: the answer could not be written\n2\n")), "True"
     yield "there is no reader", shell(folder, env, "./run any 'echo refused 1 2 3' >&-"), "1\n"
@@ -269,6 +277,7 @@ def tries(repo):
     for machine in ("x86_64", "aarch64"):
         with tempfile.TemporaryDirectory() as folder:
             env = stand_ins(folder, repo, machine)
+            yield f"on {machine}: the emulator", ended(folder, ["any", "echo ${machine:-itself}"], env=env)[1].decode(), "itself\n" if machine == "x86_64" else "emulated\n"
             for part in (said, hex_texts, untouched, readers):
                 for what, text, expected in part(folder, env):
                     yield f"on {machine}: {what}", text, expected
