@@ -63,33 +63,19 @@ pub enum Error {
     Refused(Refusal),
 }
 
-/// A number that a refusal carries, which is as small as what it tells of.
-fn small<T: TryFrom<u64>>(number: u64) -> T {
-    crate::read::as_small(number)
-}
-
 impl From<Refusal> for Error {
     fn from(refusal: Refusal) -> Self {
-        let (number, first, second) = (refusal.number, refusal.first, refusal.second);
-        match number {
-            1 => Self::InsufficientData(Incomplete {
-                needed: small(first),
-                available: small(second),
-            }),
-            2 => Self::IncorrectMessageLengthOrInvalidFormat,
-            3 => Self::InvalidFileOperationMode(small(first)),
-            4 => Self::InvalidRoutineControlSubFunction(small(first)),
-            5 => Self::InvalidDtcRecord(small(first)),
-            6 => Self::InvalidWidth(InvalidWidth {
-                width: small(first),
-            }),
-            7 => Self::Io(NoRoom {
-                needed: small(first),
-                room: small(second),
-            }),
-            9 => Self::TrailingBytes(TrailingBytes {
-                count: small(first),
-            }),
+        match refusal {
+            Refusal::TooShort { needed, available } => {
+                Self::InsufficientData(Incomplete { needed, available })
+            }
+            Refusal::WrongFormat { .. } => Self::IncorrectMessageLengthOrInvalidFormat,
+            Refusal::UnknownMode(byte) => Self::InvalidFileOperationMode(byte),
+            Refusal::UnknownSubFunction(byte) => Self::InvalidRoutineControlSubFunction(byte),
+            Refusal::NoTroubleCode(number) => Self::InvalidDtcRecord(number),
+            Refusal::BadWidth(width) => Self::InvalidWidth(InvalidWidth { width }),
+            Refusal::NoRoom { needed, room } => Self::Io(NoRoom { needed, room }),
+            Refusal::LeftOver(count) => Self::TrailingBytes(TrailingBytes { count }),
             _ => Self::Refused(refusal),
         }
     }
