@@ -5,6 +5,7 @@ use oracle_text::input::two_at;
 use oracle_text::room::full_room;
 use oracle_text::text::put_hex;
 use oracle_text::text::put_numbers;
+use station::records::RewrittenRecord;
 use station::records::WrittenRecord;
 use station::routine::skr_write_routine_request;
 use station::routine::skr_write_routine_response;
@@ -75,18 +76,28 @@ fn write_routine_response(input: &[u8], room: &mut [u8]) -> Made {
     Made::Record(skr_write_routine_response(input[3], identifier, &input[6..], room))
 }
 
+// The list of answers has no tail for a rewriting.
+fn without_tail(r: RewrittenRecord) -> Made {
+    Made::Record(WrittenRecord {
+        number: r.number,
+        first: r.first,
+        second: r.second,
+        written: r.written,
+    })
+}
+
 fn rewrite_request(input: &[u8], room: &mut [u8]) -> Made {
     if input.len() < 2 {
         return Made::Nothing;
     }
-    Made::Record(skr_rewrite_request(&input[2..], room))
+    without_tail(skr_rewrite_request(&input[2..], room))
 }
 
 fn rewrite_response(input: &[u8], room: &mut [u8]) -> Made {
     if input.len() < 2 {
         return Made::Nothing;
     }
-    Made::Record(skr_rewrite_response(&input[2..], room))
+    without_tail(skr_rewrite_response(&input[2..], room))
 }
 
 fn write(letter: u8, input: &[u8], room: &mut [u8]) -> Made {

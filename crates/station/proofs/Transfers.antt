@@ -14,7 +14,7 @@ use Rattle.wire.specs.Place.{bytesAt}
 use Rattle.wire.specs.declared.place.Place.{Place}
 use Rattle.wire.proofs.Unique.{tail-back, place-back}
 use Rattle.file_operation.specs.Mode.{kindOf}
-use Rattle.file_operation.specs.Rewriting.{retold, Rewrote}
+use Rattle.file_operation.specs.Rewriting.{retold, tailWithin, Rewrote}
 use Rattle.file_operation.specs.declared.rewrite.RewriteAnswer.{RewriteAnswer}
 use Rattle.request_file_transfer.specs.Reading as requests
 use Rattle.request_file_transfer.specs.Reading.{RequestRight}
@@ -24,10 +24,10 @@ use Rattle.request_file_transfer_response.specs.Reading as responses
 use Rattle.request_file_transfer_response.specs.Reading.{blockStart, ResponseRight}
 use Rattle.request_file_transfer_response.specs.declared.read.RequestFileTransferResponse.{RequestFileTransferResponse}
 use Rattle.request_file_transfer_response.specs.declared.read.ResponseAnswer.{ResponseAnswer}
-use Rattle.station.specs.Records.{requestRecord, blockBegins, responseRecord, writtenRecord, withoutTail, RewroteRecord}
+use Rattle.station.specs.Records.{requestRecord, blockBegins, responseRecord, rewrittenRecord, RewroteRecord}
 use Rattle.station.specs.Flat.{acceptedRequest, flatRequest, acceptedResponse, flatResponse, flatRewrite}
 use Rattle.station.specs.Handed.{whereKnown, halves, requestHanded, responseHanded}
-use Rattle.station.specs.declared.records.WrittenRecord.{WrittenRecord}
+use Rattle.station.specs.declared.records.RewrittenRecord.{RewrittenRecord}
 
 -- ---- reading
 -- how many bytes stand at a place within the message
@@ -108,12 +108,12 @@ unfolding responseHanded
 response-unknown b e n f xh xl yh yl p = sym (ap (λ (a : Answer Kind). whereKnown a (λ (k : Kind). writeResponse (response k n f (halves xh xl) (halves yh yl) p))) e)
 
 -- ---- rewriting
--- the record of a rewriter's answer leaves the tail out
-rewrite-flat : (s : List ℕ) (a : RewriteAnswer) → flatRewrite a ≡ writtenRecord (withoutTail (retold s a))
-rewrite-flat s (RewriteAnswer.Accepted n tail) = refl
-rewrite-flat s (RewriteAnswer.Refused e) = refl
+-- the record of a rewriter's answer, whose tail begins within the message
+rewrite-flat : (s : List ℕ) (a : RewriteAnswer) → tailWithin s a → flatRewrite a ≡ rewrittenRecord (length s) (retold s a)
+rewrite-flat s (RewriteAnswer.Accepted n tail) within = rw (tail-back s tail within)
+rewrite-flat s (RewriteAnswer.Refused e) within = refl
 
 -- what was rewritten, as a record
-pub rewrote-flat : {rewrite : Reader (List ℕ)} {s old new : List ℕ} {a : RewriteAnswer} {r : WrittenRecord}
-    → Rewrote rewrite s old a new → r ≡ flatRewrite a → RewroteRecord (rewrite s) old r new
-rewrote-flat {s = s} {a = a} h f = (f ∙ rewrite-flat s a ∙ ap (λ x. writtenRecord (withoutTail x)) (h .answer), h .contents)
+pub rewrote-flat : {rewrite : Reader (List ℕ)} {s old new : List ℕ} {a : RewriteAnswer} {r : RewrittenRecord}
+    → Rewrote rewrite s old a new → r ≡ flatRewrite a → RewroteRecord (length s) (rewrite s) old r new
+rewrote-flat {s = s} {a = a} h f = (f ∙ rewrite-flat s a (h .place) ∙ ap (rewrittenRecord (length s)) (h .answer), h .contents)

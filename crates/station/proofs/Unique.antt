@@ -9,6 +9,7 @@ use borrow.Fn.World.{ArgsD}
 use Rattle.paper.proofs.Utf8.{longest-once}
 use Rattle.wire.proofs.Unique.{Determined}
 use Rattle.station.specs.declared.records.WrittenRecord.{WrittenRecord}
+use Rattle.station.specs.declared.records.RewrittenRecord.{RewrittenRecord}
 use Rattle.station.proofs.transfer.skr_read_request.Kinds as read-request-kinds
 use Rattle.station.proofs.transfer.skr_read_request.Reads as read-request-reads
 use Rattle.station.proofs.transfer.skr_read_response.Kinds as read-response-kinds
@@ -102,11 +103,11 @@ pub write-routine-response-determined : (κs : Lfts 2) (a : ArgsD write-routine-
     → write-routine-response-reads.Post κs a r x → write-routine-response-reads.Post κs a s y → (r ≡ s) × (now (x .1 .1 .1 .0) ≡ now (y .1 .1 .1 .0))
 write-routine-response-determined κs a x y r s p q = (p .0 ∙ sym (q .0), p .1 ∙ sym (q .1))
 
-pub rewrite-request-determined : (κs : Lfts 2) (a : ArgsD rewrite-request.signature κs) (x y : AtExit (endedOf 2 rewrite-request-kinds.ps rewrite-request-kinds.r) κs) (r s : WrittenRecord)
+pub rewrite-request-determined : (κs : Lfts 2) (a : ArgsD rewrite-request.signature κs) (x y : AtExit (endedOf 2 rewrite-request-kinds.ps rewrite-request-kinds.r) κs) (r s : RewrittenRecord)
     → rewrite-request-reads.Post κs a r x → rewrite-request-reads.Post κs a s y → (r ≡ s) × (now (x .1 .0) ≡ now (y .1 .0))
 rewrite-request-determined κs a x y r s p q = (p .0 ∙ sym (q .0), p .1 ∙ sym (q .1))
 
-pub rewrite-response-determined : (κs : Lfts 2) (a : ArgsD rewrite-response.signature κs) (x y : AtExit (endedOf 2 rewrite-response-kinds.ps rewrite-response-kinds.r) κs) (r s : WrittenRecord)
+pub rewrite-response-determined : (κs : Lfts 2) (a : ArgsD rewrite-response.signature κs) (x y : AtExit (endedOf 2 rewrite-response-kinds.ps rewrite-response-kinds.r) κs) (r s : RewrittenRecord)
     → rewrite-response-reads.Post κs a r x → rewrite-response-reads.Post κs a s y → (r ≡ s) × (now (x .1 .0) ≡ now (y .1 .0))
 rewrite-response-determined κs a x y r s p q = (p .0 ∙ sym (q .0), p .1 ∙ sym (q .1))
 

@@ -2,7 +2,6 @@
 use Prim.Native.Nat.{ℕ}
 use mathlib.Core.Bool.{Bool, false}
 use Rattle.paper.specs.Choice.{pick}
-use Rattle.paper.specs.Answer.{accepted, refused}
 use Rattle.paper.specs.Kind.{modeOf}
 use Rattle.paper.specs.RoutineControl.{byteOf}
 use Rattle.wire.specs.Refusals.{row}
@@ -25,10 +24,10 @@ use Rattle.routine_control.specs.declared.response.RoutineControlResponseAnswer
 use Rattle.dtc.specs.Status.{codeOf}
 use Rattle.dtc.specs.declared.status.DtcRecord.{DtcRecord}
 use Rattle.dtc.specs.declared.status.DtcRecordNext.{DtcRecordNext}
-use Rattle.station.specs.Records.{refusedTransfer, refusedRoutine, writtenRecord, refusedNext}
+use Rattle.station.specs.Records.{refusedTransfer, refusedRoutine, refusedRewriting, refusedNext}
 use Rattle.station.specs.declared.records.FileTransferRecord.{FileTransferRecord}
 use Rattle.station.specs.declared.records.RoutineRecord.{RoutineRecord}
-use Rattle.station.specs.declared.records.WrittenRecord.{WrittenRecord}
+use Rattle.station.specs.declared.records.RewrittenRecord.{RewrittenRecord}
 use Rattle.station.specs.declared.records.NextTroubleCodeRecord.{NextTroubleCodeRecord}
 
 -- a message that was accepted; a request has no position
@@ -96,9 +95,9 @@ abbrev pub flatRoutineResponse : RoutineControlResponseAnswer → RoutineRecord
 flatRoutineResponse (RoutineControlResponseAnswer.Accepted q) = acceptedRoutineResponse q
 flatRoutineResponse (RoutineControlResponseAnswer.Refused e) = refusedRoutine (row e)
 
-abbrev pub flatRewrite : RewriteAnswer → WrittenRecord
-flatRewrite (RewriteAnswer.Accepted n tail) = writtenRecord (accepted n)
-flatRewrite (RewriteAnswer.Refused e) = writtenRecord (refused (row e))
+abbrev pub flatRewrite : RewriteAnswer → RewrittenRecord
+flatRewrite (RewriteAnswer.Accepted written tail) = record { number = 0; first = 0; second = 0; written = written; tail = tail }
+flatRewrite (RewriteAnswer.Refused e) = refusedRewriting (row e)
 
 abbrev pub foundNext : DtcRecord → ℕ → NextTroubleCodeRecord
 foundNext c tail = record { number = 0; first = 0; second = 0; found = 1; high = codeOf c .high; middle = codeOf c .middle; low = codeOf c .low; tail = tail }

@@ -15,6 +15,7 @@ use Rattle.paper.specs.TroubleCode.{TroubleCode, Next, none, next}
 use Rattle.station.specs.declared.records.FileTransferRecord.{FileTransferRecord}
 use Rattle.station.specs.declared.records.RoutineRecord.{RoutineRecord}
 use Rattle.station.specs.declared.records.WrittenRecord.{WrittenRecord}
+use Rattle.station.specs.declared.records.RewrittenRecord.{RewrittenRecord}
 use Rattle.station.specs.declared.records.DeskRecord.{DeskRecord}
 use Rattle.station.specs.declared.records.TroubleCodeRecord.{TroubleCodeRecord}
 use Rattle.station.specs.declared.records.NextTroubleCodeRecord.{NextTroubleCodeRecord}
@@ -118,13 +119,17 @@ writtenRecord (refused e) = record { number = e .number; first = e .first; secon
 abbrev pub WroteRecord : Answer (List ℕ) → List ℕ → WrittenRecord → List ℕ → Type 0
 WroteRecord message old r new = (r ≡ writtenRecord (written message old .answer)) × (new ≡ written message old .contents)
 
-abbrev pub withoutTail : Answer (Read ℕ) → Answer ℕ
-withoutTail (accepted (n leaving t)) = accepted n
-withoutTail (refused e) = refused e
+abbrev pub refusedRewriting : Refusal → RewrittenRecord
+refusedRewriting e = record { number = e .number; first = e .first; second = e .second; written = 0; tail = 0 }
 
--- a message was rewritten into a buffer
-abbrev pub RewroteRecord : Answer (Read (List ℕ)) → List ℕ → WrittenRecord → List ℕ → Type 0
-RewroteRecord message old r new = (r ≡ writtenRecord (withoutTail (rewrittenInto message old .answer))) × (new ≡ rewrittenInto message old .contents)
+-- of a message of n bytes: the tail begins where it ends
+abbrev pub rewrittenRecord : ℕ → Answer (Read ℕ) → RewrittenRecord
+rewrittenRecord n (accepted (k leaving t)) = record { number = 0; first = 0; second = 0; written = k; tail = n - length t }
+rewrittenRecord n (refused e) = refusedRewriting e
+
+-- a message of n bytes was rewritten into a buffer
+abbrev pub RewroteRecord : ℕ → Answer (Read (List ℕ)) → List ℕ → RewrittenRecord → List ℕ → Type 0
+RewroteRecord n message old r new = (r ≡ rewrittenRecord n (rewrittenInto message old .answer)) × (new ≡ rewrittenInto message old .contents)
 
 -- ---- the desk
 abbrev pub deskRecord : Answer (Unit {0}) → DeskRecord

@@ -49,6 +49,16 @@ pub struct WrittenRecord {
     pub written: u64,
 }
 
+// How many bytes a rewriting wrote, and where the message that it read ends: what follows there is its tail.
+#[repr(C)]
+pub struct RewrittenRecord {
+    pub number: u64,
+    pub first: u64,
+    pub second: u64,
+    pub written: u64,
+    pub tail: u64,
+}
+
 #[repr(C)]
 pub struct DeskRecord {
     pub number: u64,
@@ -106,11 +116,26 @@ pub fn flat_write(a: WriteAnswer) -> WrittenRecord
     }
 }
 
-pub(crate) fn flat_rewrite(a: RewriteAnswer) -> WrittenRecord
+pub(crate) fn flat_rewrite(a: RewriteAnswer) -> RewrittenRecord
     ensures { λ r. ⌜ r ≡ flatRewrite a ⌝ }
 {
     match a {
-        RewriteAnswer::Accepted { written, tail: _ } => flat_write(WriteAnswer::Accepted(written)),
-        RewriteAnswer::Refused(e) => refused_write(e),
+        RewriteAnswer::Accepted {
+            written: n,
+            tail: end,
+        } => RewrittenRecord {
+            number: 0,
+            first: 0,
+            second: 0,
+            written: n as u64,
+            tail: end as u64,
+        },
+        RewriteAnswer::Refused(e) => RewrittenRecord {
+            number: e.number() as u64,
+            first: e.first() as u64,
+            second: e.second() as u64,
+            written: 0,
+            tail: 0,
+        },
     }
 }

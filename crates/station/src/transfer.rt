@@ -1,6 +1,7 @@
 // File transfer messages and the desk check.
 use crate::records::DeskRecord;
 use crate::records::FileTransferRecord;
+use crate::records::RewrittenRecord;
 use crate::records::WrittenRecord;
 use crate::records::flat_rewrite;
 use crate::records::flat_write;
@@ -225,15 +226,15 @@ pub extern "C" fn skr_write_response(
 }
 
 #[no_mangle]
-pub extern "C" fn skr_rewrite_request(message: &[u8], room: &mut [u8]) -> WrittenRecord
-    ensures { λ r. ⌜ RewroteRecord (rewriteRequest (now (message .entry))) (now (room .entry)) r (now (room .exit)) ⌝ }
+pub extern "C" fn skr_rewrite_request(message: &[u8], room: &mut [u8]) -> RewrittenRecord
+    ensures { λ r. ⌜ RewroteRecord (length (now (message .entry))) (rewriteRequest (now (message .entry))) (now (room .entry)) r (now (room .exit)) ⌝ }
 {
     flat_rewrite(rewrite_request(message, room))
 }
 
 #[no_mangle]
-pub extern "C" fn skr_rewrite_response(message: &[u8], room: &mut [u8]) -> WrittenRecord
-    ensures { λ r. ⌜ RewroteRecord (rewriteResponse (now (message .entry))) (now (room .entry)) r (now (room .exit)) ⌝ }
+pub extern "C" fn skr_rewrite_response(message: &[u8], room: &mut [u8]) -> RewrittenRecord
+    ensures { λ r. ⌜ RewroteRecord (length (now (message .entry))) (rewriteResponse (now (message .entry))) (now (room .entry)) r (now (room .exit)) ⌝ }
 {
     flat_rewrite(rewrite_response(message, room))
 }
