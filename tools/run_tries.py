@@ -207,7 +207,7 @@ def stand_ins(folder, repo, machine):
     doing = {"cat": "cat", "words": r"""printf '%s\n' "$#" "$@" """}
     scripts = {f"target/bin/{name}": doing.get(name, 'eval "$1"') for name in programs}
     scripts["fake/uname"] = f"echo {machine}"
-    scripts["fake/rt"] = f"echo {folder}/docs/START-HERE.md"
+    scripts["fake/rt"] = f"[ $1 = doc ] && echo {folder}/docs/START-HERE.md"
     scripts["on/aarch64/toolchain/bin/qemu-x86_64"] = '[ "$2" = --library-path ] && shift 3 && machine=emulated exec "$@"'
     for path, text in scripts.items():
         path = os.path.join(folder, path)
@@ -271,6 +271,16 @@ def readers(folder, env):
     yield "the rest", program.communicate(b"second\n")[0].decode(), "second\n"
 
 
+def not_run(folder, env):
+    """What is not proved is not run, and a fault of `run` itself is no refusal. (This takes the programs away.)"""
+    os.utime(os.path.join(folder, "crates.txt"))
+    reasons = b"run: proving and building any\nrun: any is not proved; the whole account is in target/run.log\n"
+    yield "a program that is not proved", str(ended(folder, ["any", "echo it was run"], env=env)), str((2, b"", reasons))
+    shutil.rmtree(os.path.join(folder, "target"))
+    open(os.path.join(folder, "target"), "w", encoding="ascii").close()
+    yield "no folder for the account", str(ended(folder, ["any", "echo it was run"], env=env)[:2]), str((2, b""))
+
+
 def tries(repo):
     for part in (statuses, lists, by_hex):
         yield from part(repo)
@@ -278,6 +288,6 @@ def tries(repo):
         with tempfile.TemporaryDirectory() as folder:
             env = stand_ins(folder, repo, machine)
             yield f"on {machine}: the emulator", ended(folder, ["any", "echo ${machine:-itself}"], env=env)[1].decode(), "itself\n" if machine == "x86_64" else "emulated\n"
-            for part in (said, hex_texts, untouched, readers):
+            for part in (said, hex_texts, untouched, readers, not_run):
                 for what, text, expected in part(folder, env):
                     yield f"on {machine}: {what}", text, expected
