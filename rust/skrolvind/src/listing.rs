@@ -106,7 +106,10 @@ impl From<CodeRecord> for Listed {
 ///
 /// let message = [0x59, 0x02, 0xFF, 0x03, 0x01, 0x11, 0x2F, 0xC1, 0x00, 0x00, 0x08, 0x03, 0x01, 0x11, 0x09];
 /// let listing = Listing::read(ListingSub::ByStatusMask, &message)?;
-/// assert_eq!(listing.records().count(), 3);
+/// for record in &listing {
+///     println!("{}, status {:02x}", record.code, record.status);
+/// }
+/// assert_eq!((listing.len(), listing.mask()), (3, 0xFF));
 /// let index = listing.index();
 /// assert_eq!((index.counts()[0x03], index.firsts()[0xC1]), (2, 1));
 /// let code = listing.record(2).expect("there are three").code;
@@ -114,7 +117,7 @@ impl From<CodeRecord> for Listed {
 /// assert_eq!((place, record.status), (0, 0x2F));
 /// # Ok::<(), Refusal>(())
 /// ```
-#[derive(Clone, Copy, Debug, PartialEq, Eq)]
+#[derive(Clone, Copy, Debug, PartialEq, Eq, Hash)]
 pub struct Listing<'a> {
     pub(crate) sub: ListingSub,
     pub(crate) message: &'a [u8],
@@ -138,6 +141,12 @@ impl<'a> Listing<'a> {
             mask: as_small(r.mask),
             len: as_small(r.count),
         })
+    }
+
+    /// Which question it answers.
+    #[must_use]
+    pub const fn sub(&self) -> ListingSub {
+        self.sub
     }
 
     /// The availability mask.
@@ -192,6 +201,16 @@ impl<'a> Listing<'a> {
     }
 }
 
+impl<'a> IntoIterator for &Listing<'a> {
+    type Item = Listed;
+    type IntoIter = Records<'a>;
+
+    #[inline]
+    fn into_iter(self) -> Records<'a> {
+        self.records()
+    }
+}
+
 /// A record from its numbers, in the order in which one is handed over.
 #[inline]
 fn listed([known, severity, unit, high, middle, low, status]: [u64; 7]) -> Listed {
@@ -207,7 +226,7 @@ fn listed([known, severity, unit, high, middle, low, status]: [u64; 7]) -> Liste
 }
 
 /// The records of a listing, one after the other.
-#[derive(Clone, Copy, Debug)]
+#[derive(Clone, Debug)]
 pub struct Records<'a> {
     listing: Listing<'a>,
     next: usize,

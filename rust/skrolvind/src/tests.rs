@@ -679,7 +679,9 @@ fn handed(sub: ListingSub, message: &[u8]) -> Vec<CodeRecord> {
 fn listings_are_read_and_written_back() {
     for (sub, message) in SUBS {
         let listing = Listing::read(sub, message).unwrap();
+        assert_eq!(listing.sub(), sub);
         assert_eq!((listing.mask(), listing.len()), (0x7F, 3));
+        assert!(listing.into_iter().eq(listing.records()));
         assert_eq!(listing.records().len(), 3);
         assert_eq!(listing.record(3), None);
         let (records, len) = (handed(sub, message), message.len());
