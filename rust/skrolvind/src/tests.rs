@@ -609,7 +609,7 @@ fn the_longest_of_each() {
 }
 
 #[test]
-fn the_lengths_of_the_header() {
+fn the_lengths_and_the_version_of_the_header() {
     let lengths = [
         ("LONGEST_REQUEST", LONGEST_REQUEST),
         ("LONGEST_RESPONSE", LONGEST_RESPONSE),
@@ -626,19 +626,18 @@ fn the_lengths_of_the_header() {
         ("MOST_RECORDS", MOST_RECORDS),
     ];
     let header = include_str!("../../../include/skrolvind.h");
-    let named = header.lines().filter_map(|line| {
-        let line = line.strip_prefix("#define SKR_")?;
-        let (name, rest) = line.split_once(' ')?;
-        let number = rest.split_whitespace().next()?;
-        (name.starts_with("LONGEST_") || name.starts_with("MOST_")).then_some((name, number))
-    });
-    for (name, number) in named {
+    let named: Vec<_> = header
+        .lines()
+        .filter_map(|line| line.strip_prefix("#define SKR_")?.split_once(' '))
+        .filter(|(name, _)| name.starts_with("LONGEST_") || name.starts_with("MOST_"))
+        .collect();
+    assert_eq!(named.len(), lengths.len());
+    let version = concat!("#define SKR_VERSION \"", env!("CARGO_PKG_VERSION"), "\"");
+    assert!(header.lines().any(|line| line == version));
+    for (name, rest) in named {
         let length = lengths.iter().find(|(own, _)| *own == name);
-        assert_eq!(
-            length.map(|(_, length)| length.to_string()).as_deref(),
-            Some(number),
-            "{name}"
-        );
+        let number = rest.split(' ').next().and_then(|n| n.parse().ok());
+        assert_eq!(length.map(|(_, length)| *length), number, "{name}");
     }
 }
 
