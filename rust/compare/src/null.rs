@@ -27,7 +27,7 @@ pub fn pointers(bench: &mut Bench) {
         });
     }
     parts(bench);
-    // SAFETY (of every block below): each pointer stands with the length of what it points to, or with the length 0.
+    // SAFETY (of every block of this file): each pointer stands with the length of what it points to, or with the length 0.
     writer(bench, Call::RewriteRequest, |m, n, r, k| unsafe {
         c::skr_rewrite_request(m, n, r, k)
     });
