@@ -79,7 +79,7 @@ fn encoded<V: Encode>((value, _): &Read<V>, room: &mut [u8]) -> Result<usize, V:
 
 type OriginalRequest = RequestFileTransferRequest<'static>;
 
-/// How the original writes an `AddFile` request whose name is at hand as bytes, as it is for this port: it is checked first.
+/// How the original writes an `AddFile` request whose name is at hand as bytes: it is checked first, as this port's writer checks every name.
 fn encoded_from_bytes(read: &Read<OriginalRequest>, room: &mut [u8]) -> Result<usize, Error> {
     let (RequestFileTransferRequest::AddFile(name, format, size), _) = read else {
         return encoded(read, room);
