@@ -41,23 +41,23 @@ pub struct NoRoom {
 #[derive(Clone, Copy, Debug, PartialEq, Eq)]
 #[non_exhaustive]
 pub enum Error {
-    /// Refusal 1: a field has fewer bytes than it needs.
+    /// [`Refusal::TooShort`]: a field has fewer bytes than it needs.
     InsufficientData(Incomplete),
-    /// Refusal 2: the name is not UTF-8, or something is too long.
+    /// [`Refusal::WrongFormat`]: the name is not UTF-8, or something is too long.
     IncorrectMessageLengthOrInvalidFormat,
-    /// Refusal 3: no file operation has this number.
+    /// [`Refusal::UnknownMode`]: no file operation has this number.
     InvalidFileOperationMode(u8),
-    /// Refusal 4: no routine sub-function has this number.
+    /// [`Refusal::UnknownSubFunction`]: no routine sub-function has this number.
     InvalidRoutineControlSubFunction(u8),
-    /// Refusal 5: no trouble code has this number.
+    /// [`Refusal::NoTroubleCode`]: no trouble code has this number.
     InvalidDtcRecord(u32),
-    /// Refusal 6: a size is 1 to 16 bytes wide.
+    /// [`Refusal::BadWidth`]: a size is 1 to 16 bytes wide.
     InvalidWidth(InvalidWidth),
     /// A compression or encryption method that is no half of a byte.
     InvalidEncryptionCompressionMethod(u8),
-    /// Refusal 9: bytes are left over.
+    /// [`Refusal::LeftOver`]: bytes are left over.
     TrailingBytes(TrailingBytes),
-    /// Refusal 7: the sink has too little room.
+    /// [`Refusal::NoRoom`]: the sink has too little room.
     Io(NoRoom),
     /// Any other refusal of the library; no call of this module answers it.
     Refused(Refusal),
@@ -76,7 +76,7 @@ impl From<Refusal> for Error {
             Refusal::BadWidth(width) => Self::InvalidWidth(InvalidWidth { width }),
             Refusal::NoRoom { needed, room } => Self::Io(NoRoom { needed, room }),
             Refusal::LeftOver(count) => Self::TrailingBytes(TrailingBytes { count }),
-            _ => Self::Refused(refusal),
+            other => Self::Refused(other),
         }
     }
 }

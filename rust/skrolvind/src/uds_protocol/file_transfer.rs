@@ -1,12 +1,9 @@
 //! File transfer.
-use super::payloads::{text, through};
 use super::{
     DataFormatIdentifier, Decode, DirSizePayload, Encode, Error, FileSizePayload, NamePayload,
     NegativeResponseCode, PositionPayload, SentDataPayload, SizePayload, Write,
 };
-use crate::flat::{self, Sizes};
-use crate::read::{accepted, as_small, kind, part, whole};
-use crate::{Kind, Response};
+use crate::{Kind, Request, Response};
 
 /// What is done with a file.
 #[derive(Clone, Copy, Debug, PartialEq, Eq)]
@@ -126,19 +123,25 @@ impl<'a> RequestFileTransferRequest<'a> {
         &NEGATIVE_CODES
     }
 
-    /// Its name, its format byte and its sizes; what the variant lacks is 0, and is not written.
-    const fn fields(&self) -> (&'a str, u8, Sizes) {
-        let (name, format, sizes) = match self {
-            Self::AddFile(name, format, sizes)
-            | Self::ReplaceFile(name, format, sizes)
-            | Self::ResumeFile(name, format, sizes) => (name, *format, *sizes),
-            Self::ReadFile(name, format) => (name, *format, SizePayload::new(0, 0)),
-            Self::DeleteFile(name) | Self::ReadDir(name) => {
-                (name, DataFormatIdentifier::NONE, SizePayload::new(0, 0))
-            }
+    /// The request that it is; what the variant lacks is 0.
+    const fn fields(&self) -> Request<'a> {
+        const NONE: (DataFormatIdentifier, SizePayload) =
+            (DataFormatIdentifier::NONE, SizePayload::new(0, 0));
+        let (kind, name, (format, sizes)) = match *self {
+            Self::AddFile(name, format, sizes) => (Kind::AddFile, name, (format, sizes)),
+            Self::DeleteFile(name) => (Kind::DeleteFile, name, NONE),
+            Self::ReplaceFile(name, format, sizes) => (Kind::ReplaceFile, name, (format, sizes)),
+            Self::ReadFile(name, format) => (Kind::ReadFile, name, (format, NONE.1)),
+            Self::ReadDir(name) => (Kind::ReadDir, name, NONE),
+            Self::ResumeFile(name, format, sizes) => (Kind::ResumeFile, name, (format, sizes)),
         };
-        let sizes = Sizes::new(sizes.file_size_uncompressed, sizes.file_size_compressed);
-        (name.file_path_and_name(), format.value(), sizes)
+        Request {
+            kind,
+            name: name.file_path_and_name,
+            format: format.value(),
+            uncompressed: sizes.file_size_uncompressed,
+            compressed: sizes.file_size_compressed,
+        }
     }
 }
 
@@ -146,11 +149,8 @@ impl Encode for RequestFileTransferRequest<'_> {
     type Error = Error;
 
     fn encode(&self, writer: &mut impl Write) -> Result<usize, Error> {
-        let mode = self.mode_of_operation().value();
-        let (name, format, sizes) = self.fields();
-        through(writer, |room| {
-            flat::write_request(mode, name.as_bytes(), format, sizes, room)
-        })
+        let request = self.fields();
+        writer.lend(|room| Ok(crate::write_request(&request, room)?))
     }
 }
 
@@ -158,17 +158,13 @@ impl<'a> Decode<'a> for RequestFileTransferRequest<'a> {
     type Error = Error;
 
     fn decode(buf: &'a [u8]) -> Result<(Self, &'a [u8]), Error> {
-        let r = flat::read_request(buf);
-        accepted(r.number, r.first, r.second)?;
+        let (read, tail) = crate::read_request(buf)?;
         let name = NamePayload {
-            file_path_and_name: text(part(buf, r.start, r.len)),
+            file_path_and_name: read.name,
         };
-        let format = DataFormatIdentifier::from(as_small::<u8>(r.format));
-        let sizes = SizePayload::new(
-            whole(r.uncompressed_high, r.uncompressed_low),
-            whole(r.compressed_high, r.compressed_low),
-        );
-        let request = match kind(r.kind) {
+        let format = read.format.into();
+        let sizes = SizePayload::new(read.uncompressed, read.compressed);
+        let request = match read.kind {
             Kind::AddFile => Self::AddFile(name, format, sizes),
             Kind::DeleteFile => Self::DeleteFile(name),
             Kind::ReplaceFile => Self::ReplaceFile(name, format, sizes),
@@ -176,7 +172,7 @@ impl<'a> Decode<'a> for RequestFileTransferRequest<'a> {
             Kind::ReadDir => Self::ReadDir(name),
             Kind::ResumeFile => Self::ResumeFile(name, format, sizes),
         };
-        Ok((request, &buf[as_small(r.tail)..]))
+        Ok((request, tail))
     }
 }
 

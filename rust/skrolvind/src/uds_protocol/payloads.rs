@@ -3,21 +3,10 @@ use super::{Decode, Encode, Error, Write};
 use crate::flat::{self, PartSizes, Sizes};
 use crate::read::{accepted, as_small, part, whole};
 use crate::write::count;
-
-/// The longest name.
-const LONGEST_NAME: usize = 0xFFFF;
-
-/// The longest block length.
-const LONGEST_BLOCK_LENGTH: usize = 0xFF;
+use crate::{LONGEST_BLOCK_LENGTH, LONGEST_NAME};
 
 /// A part of a message and what follows it.
 type Read<'a, T> = Result<(T, &'a [u8]), Error>;
-
-/// The bytes of a name that the library has found to be UTF-8, as text.
-#[inline]
-pub(super) fn text(name: &[u8]) -> &str {
-    core::str::from_utf8(name).expect("the library has judged the name")
-}
 
 /// What the door writes into the sink's room.
 #[inline]
@@ -67,9 +56,8 @@ impl<'a> Decode<'a> for NamePayload<'a> {
     type Error = Error;
 
     fn decode(buf: &'a [u8]) -> Read<'a, Self> {
-        let r = flat::read_name(buf);
+        let (r, file_path_and_name) = flat::read_name_text(buf);
         accepted(r.number, r.first, r.second)?;
-        let file_path_and_name = text(part(buf, r.start, r.len));
         Ok((Self { file_path_and_name }, &buf[as_small(r.tail)..]))
     }
 }
