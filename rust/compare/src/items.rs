@@ -1,5 +1,5 @@
-//! What the original has and no door leads to, and payloads, whose doors module `parts` compares. The original's answers must be document 01's, and each goes into the recorded list, for the
-//! program `oracle_answers` to hold ours against them.
+//! What the original has and no door leads to, and payloads, whose doors module `parts` compares. The original's answers must be
+//! document 01's, and each goes into the recorded list, for the program `oracle_answers` to hold ours against them.
 use crate::bench::Bench;
 use crate::grid::{SIZES, request};
 use crate::record::Answer;
