@@ -85,6 +85,10 @@ fn ours_writes_into_a_vector() {
     assert_eq!(request.encode(&mut sink), Ok(10));
     assert_eq!(ours::DtcStatusMask::TestFailed.encode(&mut sink), Ok(1));
     assert_eq!(sink, [FILLER, 1, 0, 1, 0x61, 0x11, 2, 0, 255, 1, 0, 1]);
+    // as a sink that somebody else has lent
+    let code = ours::DtcRecord::new(1, 2, 3);
+    assert_eq!(code.encode(&mut &mut sink), Ok(3));
+    assert_eq!(sink.split_off(12), [1, 2, 3]);
     let start = ours::RoutineControlSubFunction::StartRoutine;
     let record = [0; 65_536];
     let long = ours::RoutineControlRequest::new(false, start, 1, &record);

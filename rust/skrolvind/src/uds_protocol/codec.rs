@@ -97,6 +97,16 @@ impl Write for &mut [u8] {
     }
 }
 
+impl<T: Write + ?Sized> Write for &mut T {
+    #[inline]
+    fn lend(
+        &mut self,
+        write: impl FnMut(&mut [u8]) -> Result<usize, Error>,
+    ) -> Result<usize, Error> {
+        (**self).lend(write)
+    }
+}
+
 /// Grows by what is written; `write` is asked with no room first.
 #[cfg(feature = "alloc")]
 impl Write for Vec<u8> {

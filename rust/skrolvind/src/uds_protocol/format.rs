@@ -1,7 +1,8 @@
 //! The format byte.
 use super::Error;
 
-/// How a file is packed (the high half of the byte) and encrypted (the low half); what a half means is the manufacturer's, but for 0, which means not at all.
+/// How a file is packed (the high half of the byte) and encrypted (the low half). What a half means is the manufacturer's, but for 0,
+/// which means not at all.
 #[derive(Clone, Copy, Debug, PartialEq, Eq)]
 pub struct DataFormatIdentifier(u8);
 
