@@ -998,6 +998,14 @@ pub fn read_name(buffer: &[u8]) -> Part {
     unsafe { c::skr_read_name(buffer.as_ptr(), buffer.len()) }
 }
 
+/// `skr_read_name`, and the name; empty where it is refused.
+#[inline]
+pub(crate) fn read_name_text(buffer: &[u8]) -> (Part, &str) {
+    let r = read_name(buffer);
+    // SAFETY: the place is the library's answer to this very buffer; after a refusal it is empty.
+    (r, unsafe { name(buffer, r.start, r.len) })
+}
+
 /// `skr_read_block_length`.
 #[must_use]
 #[inline]
