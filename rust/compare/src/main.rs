@@ -56,6 +56,8 @@ fn main() {
     let recorder = arguments.record.as_ref();
     let mut bench = Bench::new(recorder.map(|_| Recorder::new(arguments.seed)));
     let b = &mut bench;
+    step(b, "parts read", parts::read);
+    step(b, "parts written", parts::written);
     step(b, "chosen values written", grid::transfers);
     step(b, "routine messages", grid::routines);
     step(b, "groups and cuts", grid::groups);
@@ -70,8 +72,6 @@ fn main() {
     step(b, "what is made of a byte, or of two", items::of_bytes);
     step(b, "trouble codes and their fields", items::trouble_codes);
     step(b, "payloads", items::payloads);
-    step(b, "parts read", parts::read);
-    step(b, "parts written", parts::written);
     step(b, "names of 4 and 5 chosen bytes", sweep::names);
     step(b, "trouble-code numbers", sweep::numbers);
     step(b, "requests for the desk", desk::requests);

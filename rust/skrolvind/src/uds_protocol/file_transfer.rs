@@ -32,18 +32,17 @@ impl FileOperationMode {
     pub const fn value(&self) -> u8 {
         match *self {
             Self::IsoSaeReserved(byte) => byte,
-            Self::AddFile => 0x01,
-            Self::DeleteFile => 0x02,
-            Self::ReplaceFile => 0x03,
-            Self::ReadFile => 0x04,
-            Self::ReadDir => 0x05,
-            Self::ResumeFile => 0x06,
+            Self::AddFile => Kind::AddFile as u8,
+            Self::DeleteFile => Kind::DeleteFile as u8,
+            Self::ReplaceFile => Kind::ReplaceFile as u8,
+            Self::ReadFile => Kind::ReadFile as u8,
+            Self::ReadDir => Kind::ReadDir as u8,
+            Self::ResumeFile => Kind::ResumeFile as u8,
         }
     }
-}
 
-impl From<Kind> for FileOperationMode {
-    fn from(kind: Kind) -> Self {
+    /// The mode of a kind.
+    const fn of(kind: Kind) -> Self {
         match kind {
             Kind::AddFile => Self::AddFile,
             Kind::DeleteFile => Self::DeleteFile,
@@ -52,6 +51,12 @@ impl From<Kind> for FileOperationMode {
             Kind::ReadDir => Self::ReadDir,
             Kind::ResumeFile => Self::ResumeFile,
         }
+    }
+}
+
+impl From<Kind> for FileOperationMode {
+    fn from(kind: Kind) -> Self {
+        Self::of(kind)
     }
 }
 
@@ -107,14 +112,7 @@ impl<'a> RequestFileTransferRequest<'a> {
     /// What is asked for.
     #[must_use]
     pub const fn mode_of_operation(&self) -> FileOperationMode {
-        match self {
-            Self::AddFile(..) => FileOperationMode::AddFile,
-            Self::DeleteFile(..) => FileOperationMode::DeleteFile,
-            Self::ReplaceFile(..) => FileOperationMode::ReplaceFile,
-            Self::ReadFile(..) => FileOperationMode::ReadFile,
-            Self::ReadDir(..) => FileOperationMode::ReadDir,
-            Self::ResumeFile(..) => FileOperationMode::ResumeFile,
-        }
+        FileOperationMode::of(self.fields().kind)
     }
 
     /// The negative codes that the standard lists for file transfer.

@@ -47,7 +47,7 @@ impl Encode for NamePayload<'_> {
     type Error = Error;
 
     fn encode(&self, writer: &mut impl Write) -> Result<usize, Error> {
-        let name = self.file_path_and_name.as_bytes();
+        let name = self.file_path_and_name().as_bytes();
         through(writer, |room| flat::write_name(name, room))
     }
 }
