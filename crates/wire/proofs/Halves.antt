@@ -4,7 +4,6 @@ use Prim.Native.Nat.{ℕ, _/_, _%_, _^_, _<_}
 use mathlib.Core.Path.{_≡_, ap₂}
 use mathlib.Core.List.{List}
 use mir.Val.{Val}
-use native.Mathlib.Omega.{arith}
 use denote.Laws.{Is}
 use denote.Struct.Laws as structs
 use lib.Arith.{digits-div, digits-mod}
@@ -16,10 +15,6 @@ use Rattle.wire.proofs.size.Size.Laws as size-laws
 -- whoever is given a size knows of it that its low half is below 2 ^ 64
 pub size-low : (x : Size) (vs : List Val) → Is size.the-row x vs → x .low < 2 ^ 64
 size-low x vs h = structs.owed size.the-type size-laws.the-laws x vs h .1 .0 .1
-
--- a size below 2 ^ 64 is its low half
-pub low-alone : (x : Size) (n : ℕ) → value x ≡ n → n < 2 ^ 64 → x .low ≡ n
-low-alone x n e h = omega arith
 
 -- the size of a number
 abbrev pub sizeOf : ℕ → Size

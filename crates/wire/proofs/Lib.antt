@@ -4,6 +4,7 @@ pub mod LeadingZeros
 pub mod Halves
 pub mod Prefixes
 pub mod Parts
+pub mod Runs
 pub mod Uint
 pub mod Groups
 pub mod Left

@@ -2,9 +2,8 @@
 use crate::available::available_at;
 use crate::refusal::Refusal;
 use crate::size::Size;
-use crate::size::shift_in;
 ghost use mathlib.Core.Path.{_≡_};
-ghost use Prim.Native.Nat.{_+_, _≤_, _<_};
+ghost use Prim.Native.Nat.{_+_, _^_, _≤_, _<_};
 ghost use lib.ListN.{length, take, drop};
 ghost use Rattle.paper.specs.Bytes.{ofBytes};
 ghost use Rattle.wire.specs.Size.{value};
@@ -41,18 +40,36 @@ pub fn byte_at(s: &[u8], at: usize) -> ByteAnswer
     ByteAnswer::Accepted(s[at], at + 1)
 }
 
-// The number in the `width` bytes of `s` from `at` on, which are there.
+// The number in the `width` bytes of `s` from `at` on, which are there: the last eight are the low half, those before them the high half.
 pub(crate) fn gather(s: &[u8], at: usize, width: usize) -> Size
     requires { ⌜ (width ≤ 16) × (at + width ≤ length (now s)) ⌝ }
     ensures { λ r. ⌜ value r ≡ ofBytes (take width (drop at (now (s .entry)))) ⌝ }
 {
-    let mut x = Size { high: 0, low: 0 };
+    if width < 8 {
+        return Size {
+            high: 0,
+            low: few(s, at, width),
+        };
+    }
+    let above = width - 8;
+    Size {
+        high: few(s, at, above),
+        low: eight(s, at + above),
+    }
+}
+
+// The number in at most eight bytes, which one half holds.
+fn few(s: &[u8], at: usize, width: usize) -> u64
+    requires { ⌜ (width ≤ 8) × (at + width ≤ length (now s)) ⌝ }
+    ensures { λ r. ⌜ r ≡ ofBytes (take width (drop at (now (s .entry)))) ⌝ }
+{
+    let mut x = 0;
     let mut i = 0;
     while i < width {
-        x = shift_in(x, s[at + i]);
+        x = x * 256 + wide(s[at + i]);
         i += 1;
     }
-    x
+    x as u64
 }
 
 // A byte as a number of bytes.
@@ -70,6 +87,26 @@ pub(crate) fn pair(s: &[u8], at: usize) -> usize
     let high = wide(s[at]);
     let low = wide(s[at + 1]);
     high * 256 + low
+}
+
+// The number in the four bytes of `s` from `at` on, which are there.
+fn four(s: &[u8], at: usize) -> usize
+    requires { ⌜ at + 4 ≤ length (now s) ⌝ }
+    ensures { λ r. ⌜ (r ≡ ofBytes (take 4 (drop at (now (s .entry))))) × (r < 2 ^ 32) ⌝ }
+{
+    let high = pair(s, at);
+    let low = pair(s, at + 2);
+    high * 0x1_0000 + low
+}
+
+// The number in the eight bytes of `s` from `at` on, which are there. With no loop the compiler loads them at once.
+fn eight(s: &[u8], at: usize) -> u64
+    requires { ⌜ at + 8 ≤ length (now s) ⌝ }
+    ensures { λ r. ⌜ r ≡ ofBytes (take 8 (drop at (now (s .entry)))) ⌝ }
+{
+    let high = four(s, at);
+    let low = four(s, at + 4);
+    (high * 0x1_0000_0000 + low) as u64
 }
 
 pub enum EightAnswer {
@@ -99,6 +136,5 @@ pub fn eight_at(s: &[u8], at: usize) -> EightAnswer
             available,
         });
     }
-    let x = gather(s, at, 8);
-    EightAnswer::Accepted(x.low, at + 8)
+    EightAnswer::Accepted(eight(s, at), at + 8)
 }

@@ -1,7 +1,7 @@
 // Sizes: the numbers from 0 to 2^128 - 1, held as two halves. They are compared, and measured in bytes.
 ghost use mathlib.Core.Path.{_≡_};
 ghost use mathlib.Core.List.{[], _∷_};
-ghost use Prim.Native.Nat.{max, _+_, _*_, _/_, _%_, _^_, _<_};
+ghost use Prim.Native.Nat.{max, _/_, _%_};
 ghost use Rattle.paper.specs.Sizes.{Smallest, compare};
 ghost use Rattle.wire.specs.Size.{value, orderOf};
 
@@ -65,17 +65,6 @@ pub fn width_of_both(a: Size, b: Size) -> usize
     ensures { λ r. ⌜ Smallest (value a ∷ value b ∷ []) r ⌝ }
 {
     width_of(larger(a, b))
-}
-
-// The size with one byte more at its low end.
-pub(crate) fn shift_in(x: Size, b: u8) -> Size
-    requires { ⌜ value x < 2 ^ 120 ⌝ }
-    ensures { λ r. ⌜ value r ≡ value x * 256 + b ⌝ }
-{
-    Size {
-        high: x.high * 256 + x.low / 0x100_0000_0000_0000,
-        low: x.low % 0x100_0000_0000_0000 * 256 + b as u64,
-    }
 }
 
 // The size without its low byte.

@@ -1,8 +1,7 @@
--- `wire::number::eight_at` meets its contract: the number of eight bytes is the low half of what is gathered.
+-- `wire::number::eight_at` meets its contract: fewer than eight bytes are there, or their number is.
 -- Assumes nothing.
 use native.Mathlib.Omega.{arith}
-use Rattle.paper.proofs.Places.{bytes-of, below-part, number-short, number-there}
-use Rattle.wire.proofs.Halves.{low-alone}
+use Rattle.paper.proofs.Places.{number-short, number-there}
 use borrow.Author.Needs.{needs}
 use Rattle.wire.proofs.number.eight_at.Statement.{statement}
 use Rattle.wire.proofs.number.eight_at.Tie as tie
@@ -13,8 +12,8 @@ available-at-requires c κs = search needs
 returns : tie.Need-returns
 returns c = let a = c .before .before .before .args in record { paper = number-short (a .s .now) (a .at) 8 _ (c .before .available-at .ensures) (search needs); place = tt }
 
-gather-requires : tie.Need-gather-requires
-gather-requires c κs = search needs
+eight-requires : tie.Need-eight-requires
+eight-requires c κs = search needs
 
 add-t7 : tie.Need-add-t7
 add-t7 c = search needs
@@ -22,11 +21,7 @@ add-t7 c = search needs
 returns-2 : tie.Need-returns-2
 returns-2 c =
     let a = c .before .before .before .before .args in
-    let b = bytes-of (a .s .now) (λ i. c .before .before .before .shared-slice-known .given i .fits) in
-    record {
-      paper = number-there (a .s .now) (a .at) 8 _ (low-alone _ _ (c .gather .ensures) (below-part (a .s .now) (a .at) 8 b (omega arith))) (omega arith);
-      place = search needs;
-    }
+    record { paper = number-there (a .s .now) (a .at) 8 _ (c .eight .ensures) (omega arith); place = search needs }
 
 pub eight-at-spec : {M : Type 1} → statement M
-eight-at-spec = tie.close (tie.spec available-at-requires returns gather-requires add-t7 returns-2)
+eight-at-spec = tie.close (tie.spec available-at-requires returns eight-requires add-t7 returns-2)

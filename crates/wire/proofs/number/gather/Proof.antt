@@ -1,66 +1,36 @@
--- `wire::number::gather` meets its contract. Invariant: the size so far is the number of the bytes passed, and fits in as many bytes.
+-- `wire::number::gather` meets its contract: fewer than eight bytes are the low half; else the last eight are, and those before them the high half.
 -- Assumes nothing.
-use mathlib.Core.Path.{_≡_, refl}
-use Prim.Native.Nat.{_+_, _-_, _^_, _≤_, _<_}
-use native.Mathlib.Nat.{lt-of-lt-of-le, pow-le-pow-right}
+use mathlib.Core.Path.{_≡_, ap, _∙_}
+use Prim.Native.Nat.{ℕ, _+_, _-_}
 use native.Mathlib.Omega.{arith}
-use lib.Dec.{lit<}
 use lib.ListN.{take, drop}
 use borrow.Author.Needs.{needs}
 use Rattle.paper.specs.Bytes.{ofBytes}
-use Rattle.paper.proofs.Places.{of-next, below-next}
-use Rattle.wire.specs.Size.{value}
+use Rattle.wire.proofs.Runs.{of-run}
 use Rattle.wire.proofs.number.gather.Statement.{statement}
 use Rattle.wire.proofs.number.gather.Tie as tie
 
-abbrev Inv-loop : tie.InvT-loop
-Inv-loop s at width x₀ i₀ x i = (value x ≡ ofBytes (take i (drop at s))) × (value x < 256 ^ i) × (i ≤ width)
+few-requires : tie.Need-few-requires
+few-requires c κs = search needs
 
-abbrev μ-loop : tie.MeasureT-loop
-μ-loop s at width x₀ i₀ x i = width - i
+returns : tie.Need-returns
+returns c = search needs
 
-loop-holds : tie.Need-loop-holds Inv-loop μ-loop
-unfolding ofBytes
-loop-holds c = (refl, omega arith, omega arith)
+few-requires-2 : tie.Need-few-requires-2
+few-requires-2 c κs = search needs
 
-add-shift-in : tie.Need-add-shift-in Inv-loop μ-loop
-add-shift-in c = search needs
+add-eight : tie.Need-add-eight
+add-eight c = search needs
 
-shared-slice-read-shift-in : tie.Need-shared-slice-read-shift-in Inv-loop μ-loop
-shared-slice-read-shift-in c = search needs
+eight-requires : tie.Need-eight-requires
+eight-requires c κs = search needs
 
-shift-in-requires : tie.Need-shift-in-requires Inv-loop μ-loop
-shift-in-requires c κs = lt-of-lt-of-le (c .before .before .loop .inv .1) (pow-le-pow-right (lit< tt) {j = 15} (omega arith))
-
-add-i : tie.Need-add-i Inv-loop μ-loop
-add-i c = search needs
-
-loop-less : tie.Need-loop-less Inv-loop μ-loop
-loop-less c = search needs
-
-loop-again : tie.Need-loop-again Inv-loop μ-loop
-loop-again c =
-    let l = c .before .before .before in
-    let a = l .before .before .args in
-    let b = c .before .shared-slice-known2 .given (a .at + l .loop .i) .fits in
-    (cc (of-next (a .s .now) (a .at) (l .loop .i) (omega arith)), rw (c .shift-in .ensures) (below-next _ _ _ (l .loop .inv .1) b), omega arith)
-
-returns : tie.Need-returns Inv-loop μ-loop
-returns c =
-    let done : c .before .loop .i ≡ c .before .before .before .args .width = omega arith in
-    rw (← done) (c .before .loop .inv .0)
+returns-2 : tie.Need-returns-2
+returns-2 c =
+    let a = c .before .before .before .before .args in
+    let whole : a .width - 8 + 8 ≡ a .width = omega arith in
+    rw (c .before .few2 .ensures, c .eight .ensures)
+    (of-run (a .s .now) (a .at) (a .width - 8) 8 (omega arith) ∙ ap (λ (w : ℕ). ofBytes (take w (drop (a .at) (a .s .now)))) whole)
 
 pub gather-spec : {M : Type 1} → statement M
-gather-spec =
-    tie.close
-    (tie.spec
-    Inv-loop
-    μ-loop
-    loop-holds
-    add-shift-in
-    shared-slice-read-shift-in
-    shift-in-requires
-    add-i
-    loop-less
-    loop-again
-    returns)
+gather-spec = tie.close (tie.spec few-requires returns few-requires-2 add-eight eight-requires returns-2)
