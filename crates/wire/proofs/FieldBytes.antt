@@ -1,14 +1,16 @@
 -- Of what bytes the fields consist: a number in bytes that hold it, a run after its count, sizes after their width.
 -- Assumes nothing.
-use Prim.Native.Nat.{ℕ, zero, suc, _+_, _*_, _/_, _%_, _^_, _≤_, _<_}
-use mathlib.Core.Path.{_≡_, sym, subst, _∙_}
+use Prim.Native.Nat.{ℕ, zero, suc, _+_, _-_, _*_, _/_, _%_, _^_, _≤_, _<_}
+use mathlib.Core.Path.{_≡_, sym}
 use mathlib.Core.List.{List, [], _∷_, _++_, append-assoc, append-nil}
-use native.Mathlib.Nat.{pow-suc, pow-succ', mod-lt, div-add-mod', div-div-eq-div-mul}
+use native.Mathlib.Nat.{zero-add, suc-add, mul-comm, pow-suc, mod-lt, mod-eq-of-lt, div-div-eq-div-mul, pow-le-pow-right}
+use native.Mathlib.Numerals.{add-one}
 use native.Mathlib.Omega.{arith}
 use borrow.Author.Tests.{lt-leb, le-leb}
 use lib.Arith.{mod-mul, digits-div, digits-mod}
 use lib.Dec.{lit<}
 use lib.ListN.{length, drop, set, length-append}
+use lib.Pow.{pow-add}
 use lib.Seq.{drop-cons, lt-length-set, getD-set-same, drop-set-lt}
 use Rattle.paper.specs.Answer.{accepted, refused, wrongFormat}
 use Rattle.paper.specs.Bytes.{toBytes}
@@ -27,20 +29,24 @@ use Rattle.wire.specs.declared.prefix.Prefix.the-variants.{One, Two}
 pub fits-less : (w : ℕ) {n : ℕ} → n < 256 ^ suc w → n / 256 < 256 ^ w
 fits-less w h = omega (arith, pow-suc 256 w)
 
--- one byte more at the low end
-toBytes-snoc : (w n b : ℕ) → n < 256 ^ w → b < 256 → toBytes (suc w) (n * 256 + b) ≡ toBytes w n ++ (b ∷ [])
+-- its bytes are those of its high part, in front of those of its low one
+pub toBytes-parts : (k j n : ℕ) → n < 256 ^ (k + j) → toBytes (k + j) n ≡ toBytes k (n / 256 ^ j) ++ toBytes j (n % 256 ^ j)
 unfolding toBytes
-toBytes-snoc zero n b h s = let z : (n * 256 + b) / 1 ≡ b = omega arith in rw z
-toBytes-snoc (suc w) n b h s =
-    let x = n * 256 + b in
-    let q : x / 256 ^ suc w ≡ n / 256 ^ w = rw pow-succ' (sym (div-div-eq-div-mul x 256 (256 ^ w)) ∙ rw (digits-div n s)) in
-    let m : x % 256 ^ suc w ≡ n % 256 ^ w * 256 + b = rw pow-suc (mod-mul x (pow-pos w) (lit< tt) ∙ rw (digits-div n s, digits-mod n s)) in
-    rw (q, m, toBytes-snoc w (n % 256 ^ w) b (mod-lt n (pow-pos w)) s)
+toBytes-parts zero j n h = let small : n < 256 ^ j = rw zero-add at h in rw (zero-add j, mod-eq-of-lt small)
+toBytes-parts (suc k) j n h =
+    let q = n / 256 ^ j % 256 ^ k in
+    let low = mod-lt n (pow-pos j) in
+    let top : n / 256 ^ (k + j) ≡ n / 256 ^ j / 256 ^ k = rw (pow-add 256 k j, mul-comm (256 ^ k) (256 ^ j)) (sym (div-div-eq-div-mul n (256 ^ j) (256 ^ k))) in
+    let cut : n % 256 ^ (k + j) ≡ q * 256 ^ j + n % 256 ^ j = rw (pow-add 256 k j) (mod-mul n (pow-pos k) (pow-pos j)) in
+    rw (suc-add k j, top, toBytes-parts k j (n % 256 ^ (k + j)) (mod-lt n (pow-pos (k + j))), cut, digits-div q low, digits-mod q low)
+
+pub one-byte : (b : ℕ) → toBytes 1 b ≡ b ∷ []
+unfolding toBytes
+one-byte b = let whole : b / 1 ≡ b = omega arith in rw whole
 
 -- the low byte comes last, after the bytes of the number without it
 low-last : (w n : ℕ) → n < 256 ^ suc w → toBytes (suc w) n ≡ toBytes w (n / 256) ++ (n % 256 ∷ [])
-low-last w n h =
-    subst (λ (m : ℕ). toBytes (suc w) m ≡ toBytes w (n / 256) ++ (n % 256 ∷ [])) (div-add-mod' n 256) (toBytes-snoc w (n / 256) (n % 256) (fits-less w h) (mod-lt n (lit< tt)))
+low-last w n h = rw (add-one w, one-byte (n % 256)) at (toBytes-parts w 1 n (rw (add-one w) h))
 
 -- the bytes still to come, in front of those that stand there, stay the same where the low byte is stored
 pub low-store : (w n : ℕ) (out : List ℕ) → n < 256 ^ suc w → w < length out
@@ -49,11 +55,24 @@ low-store w n out h l =
     rw (low-last w n h, drop-cons (set out w (n % 256)) w 0 (lt-length-set out w (n % 256) l), getD-set-same out w (n % 256) 0 l, drop-set-lt (suc w) out w (n % 256) (omega arith))
     (sym (append-assoc (toBytes w (n / 256)) (n % 256 ∷ []) (drop (suc w) out)))
 
--- ---- a run after its count
-pub prefix-holds : (p : Prefix) {n : ℕ} → n ≤ prefixMost p → n < 256 ^ prefixLen p
-prefix-holds One h = omega arith
-prefix-holds Two h = omega arith
+-- ---- a size that fits: its halves
+module _ (w h l : ℕ) (fits : h * 2 ^ 64 + l < 256 ^ w) where
+  -- in at most eight bytes it is its low half
+  pub low-half : w ≤ 8 → h * 2 ^ 64 + l ≡ l
+  low-half few = let most : 256 ^ w ≤ 256 ^ 8 = pow-le-pow-right (lit< tt) few in omega arith
 
+  -- in more, the low half takes eight, and the high half fits in those in front of them
+  module _ (many : 8 ≤ w) where
+    back : w - 8 + 8 ≡ w
+    back = omega arith
+
+    pub high-fits : h < 256 ^ (w - 8)
+    high-fits = omega (arith, rw back at (pow-add 256 (w - 8) 8))
+
+    pub halves : l < 2 ^ 64 → toBytes (w - 8) h ++ toBytes 8 l ≡ toBytes w (h * 2 ^ 64 + l)
+    halves low = sym (rw (back, digits-div h low, digits-mod h low) at (toBytes-parts (w - 8) 8 (h * 2 ^ 64 + l) (rw back fits)))
+
+-- ---- a run after its count
 -- a run that is longer than its count can say, and one that is not
 pub counted-long : (k : ℕ) {most : ℕ} (x : List ℕ) → most < length x → countedRun k most x ≡ refused (wrongFormat 0)
 unfolding countedRun
@@ -73,7 +92,7 @@ unfolding sizesOut
 length-sizes k xs = length-sizesAt k (width xs) xs
 
 -- a width stands in either prefix
-pub prefix-width : (p : Prefix) {xs : List ℕ} {w : ℕ} → Smallest xs w → w < 256 ^ prefixLen p
+pub prefix-width : (p : Prefix) {xs : List ℕ} {w : ℕ} → Smallest xs w → w ≤ prefixMost p
 prefix-width One s = omega (arith, s .holds .within)
 prefix-width Two s = omega (arith, s .holds .within)
 

@@ -1,7 +1,7 @@
 // Sizes: the numbers from 0 to 2^128 - 1, held as two halves. They are compared, and measured in bytes.
 ghost use mathlib.Core.Path.{_≡_};
 ghost use mathlib.Core.List.{[], _∷_};
-ghost use Prim.Native.Nat.{max, _/_, _%_};
+ghost use Prim.Native.Nat.{max};
 ghost use Rattle.paper.specs.Sizes.{Smallest, compare};
 ghost use Rattle.wire.specs.Size.{value, orderOf};
 
@@ -65,20 +65,4 @@ pub fn width_of_both(a: Size, b: Size) -> usize
     ensures { λ r. ⌜ Smallest (value a ∷ value b ∷ []) r ⌝ }
 {
     width_of(larger(a, b))
-}
-
-// The size without its low byte.
-pub(crate) fn shift_out(x: Size) -> Size
-    ensures { λ r. ⌜ value r ≡ value x / 256 ⌝ }
-{
-    Size {
-        high: x.high / 256,
-        low: x.high % 256 * 0x100_0000_0000_0000 + x.low / 256,
-    }
-}
-
-pub(crate) fn low_byte(x: Size) -> u8
-    ensures { λ r. ⌜ r ≡ value x % 256 ⌝ }
-{
-    (x.low % 256) as u8
 }

@@ -3,18 +3,17 @@
 use crate::prefix::Prefix;
 use crate::refusal::Refusal;
 use crate::size::Size;
-use crate::size::low_byte;
-use crate::size::shift_out;
 use crate::size::width_of;
 use crate::size::width_of_both;
 ghost use mathlib.Core.Path.{_≡_};
 ghost use mathlib.Core.List.{[], _∷_};
-ghost use Prim.Native.Nat.{_^_, _<_};
+ghost use Prim.Native.Nat.{_^_, _≤_, _<_};
+ghost use lib.ListN.{length};
 ghost use Rattle.paper.specs.Answer.{accepted};
 ghost use Rattle.paper.specs.Bytes.{toBytes};
 ghost use Rattle.wire.specs.Prefix.{prefixLen, prefixMost};
 ghost use Rattle.wire.specs.Size.{value};
-ghost use Rattle.wire.specs.Writing.{Wrote, countedRun, sizesOut};
+ghost use Rattle.wire.specs.Writing.{Wrote, Filled, countedRun, sizesOut};
 
 // How many bytes were written, or the refusal.
 pub enum WriteAnswer {
@@ -63,7 +62,48 @@ pub fn put_bytes(src: &[u8], out: &mut [u8]) -> WriteAnswer
     WriteAnswer::Accepted(needed)
 }
 
-// A size that fits in `width` bytes, high byte first.
+// High byte first, as are the two pairs.
+fn put_four(x: u32, out: &mut [u8]) -> WriteAnswer
+    ensures { λ r. ⌜ Wrote (accepted (toBytes 4 x)) (now (out .entry)) r (now (out .exit)) ⌝ }
+{
+    let room = out.len();
+    if room < 4 {
+        return WriteAnswer::Refused(Refusal::NoRoom { needed: 4, room });
+    }
+    // The room was checked first, so that a refused write changes nothing: now no part is refused, and the answers are dropped, here and below.
+    put_two((x / 0x1_0000) as u16, out);
+    put_two((x % 0x1_0000) as u16, &mut out[2..]);
+    WriteAnswer::Accepted(4)
+}
+
+// High byte first.
+pub fn put_eight(x: u64, out: &mut [u8]) -> WriteAnswer
+    ensures { λ r. ⌜ Wrote (accepted (toBytes 8 x)) (now (out .entry)) r (now (out .exit)) ⌝ }
+{
+    let room = out.len();
+    if room < 8 {
+        return WriteAnswer::Refused(Refusal::NoRoom { needed: 8, room });
+    }
+    put_four((x / 0x1_0000_0000) as u32, out);
+    put_four((x % 0x1_0000_0000) as u32, &mut out[4..]);
+    WriteAnswer::Accepted(8)
+}
+
+// A number that fits in the first `width` bytes of `out`, which are there: high byte first.
+fn put_half(x: u64, width: usize, out: &mut [u8])
+    requires { ⌜ (x < 256 ^ width) × (width ≤ length (now out)) ⌝ }
+    ensures { λ r. ⌜ Filled (toBytes width x) (now (out .entry)) (now (out .exit)) ⌝ }
+{
+    let mut rest = x;
+    let mut i = width;
+    while 0 < i {
+        i -= 1;
+        out[i] = (rest % 256) as u8;
+        rest /= 256;
+    }
+}
+
+// A size that fits in `width` bytes, high byte first: up to eight of them hold its low half, and those in front of eight its high half.
 fn write_be_uint(x: Size, width: usize, out: &mut [u8]) -> WriteAnswer
     requires { ⌜ value x < 256 ^ width ⌝ }
     ensures { λ r. ⌜ Wrote (accepted (toBytes width (value x))) (now (out .entry)) r (now (out .exit)) ⌝ }
@@ -75,30 +115,24 @@ fn write_be_uint(x: Size, width: usize, out: &mut [u8]) -> WriteAnswer
             room,
         });
     }
-    let mut rest = x;
-    let mut i = width;
-    while 0 < i {
-        i -= 1;
-        out[i] = low_byte(rest);
-        rest = shift_out(rest);
+    if width <= 8 {
+        put_half(x.low, width, out);
+    } else {
+        let high = width - 8;
+        put_half(x.high, high, out);
+        put_eight(x.low, &mut out[high..]);
     }
     WriteAnswer::Accepted(width)
 }
 
-// High byte first.
-pub fn put_eight(x: u64, out: &mut [u8]) -> WriteAnswer
-    ensures { λ r. ⌜ Wrote (accepted (toBytes 8 x)) (now (out .entry)) r (now (out .exit)) ⌝ }
+// A count or a width in one byte or in two, which hold it.
+fn put_head(prefix: Prefix, n: usize, out: &mut [u8]) -> WriteAnswer
+    requires { ⌜ n ≤ prefixMost prefix ⌝ }
+    ensures { λ r. ⌜ Wrote (accepted (toBytes (prefixLen prefix) n)) (now (out .entry)) r (now (out .exit)) ⌝ }
 {
-    write_be_uint(Size { high: 0, low: x }, 8, out)
-}
-
-// A number of bytes as a size.
-fn size_from(n: usize) -> Size
-    ensures { λ r. ⌜ value r ≡ n ⌝ }
-{
-    Size {
-        high: 0,
-        low: n as u64,
+    match prefix {
+        Prefix::One => put_byte(n as u8, out),
+        Prefix::Two => put_two(n as u16, out),
     }
 }
 
@@ -115,8 +149,7 @@ pub fn put_counted(prefix: Prefix, src: &[u8], out: &mut [u8]) -> WriteAnswer
     if room < needed {
         return WriteAnswer::Refused(Refusal::NoRoom { needed, room });
     }
-    // The room was checked first, so that a refused write changes nothing: now no part is refused, and the answers are dropped, here and below.
-    write_be_uint(size_from(src.len()), at, out);
+    put_head(prefix, src.len(), out);
     put_bytes(src, &mut out[at..]);
     WriteAnswer::Accepted(needed)
 }
@@ -132,7 +165,7 @@ pub fn put_one_size(prefix: Prefix, x: Size, out: &mut [u8]) -> WriteAnswer
     if room < needed {
         return WriteAnswer::Refused(Refusal::NoRoom { needed, room });
     }
-    write_be_uint(size_from(width), first, out);
+    put_head(prefix, width, out);
     write_be_uint(x, width, &mut out[first..]);
     WriteAnswer::Accepted(needed)
 }
@@ -149,7 +182,7 @@ pub fn put_two_sizes(prefix: Prefix, a: Size, b: Size, out: &mut [u8]) -> WriteA
     if room < needed {
         return WriteAnswer::Refused(Refusal::NoRoom { needed, room });
     }
-    write_be_uint(size_from(width), first, out);
+    put_head(prefix, width, out);
     write_be_uint(a, width, &mut out[first..]);
     write_be_uint(b, width, &mut out[second..]);
     WriteAnswer::Accepted(needed)

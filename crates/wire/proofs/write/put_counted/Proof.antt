@@ -6,7 +6,7 @@ use Rattle.paper.specs.Field.{withCount}
 use Rattle.paper.proofs.Bytes.{length-toBytes}
 use Rattle.wire.proofs.Over.{filled-more}
 use Rattle.wire.proofs.Writes.{refuses, writes, malformed, passed, filled}
-use Rattle.wire.proofs.FieldBytes.{prefix-holds, counted-long, counted-good, length-counted}
+use Rattle.wire.proofs.FieldBytes.{counted-long, counted-good, length-counted}
 use Rattle.wire.proofs.write.put_counted.Statement.{statement}
 use Rattle.wire.proofs.write.put_counted.Tie as tie
 
@@ -19,25 +19,20 @@ returns-2 c =
     let k = c .before .len in
     rw (← k .ensures .0) (passed (counted-good _ _ (search needs)) (refuses _ (length-counted (k .result) s) (search needs)))
 
-write-be-uint-requires : tie.Need-write-be-uint-requires
-write-be-uint-requires c κs =
-    let k = c .before .before .before .len in
-    rw (c .before .size-from .ensures, k .ensures .0) (prefix-holds (c .before .before .before .before .before .before .before .before .args .prefix) (search needs))
-
 returns-3 : tie.Need-returns-3
 unfolding withCount
 returns-3 c =
     let count = c .before .before .before .before .before .before in
-    let k = count .before .before .before .before .len in
-    let s = now (count .before .before .before .before .before .before .before .before .before .args .src) in
+    let k = count .before .before .before .len in
+    let s = now (count .before .before .before .before .before .before .before .before .args .src) in
     rw (← k .ensures .0)
     (passed (counted-good _ _ (search needs))
     (writes _ (length-counted (k .result) s) (search needs)
-    (filled-more (k .result) (rw (count .before .before .size-from .ensures) at (filled refl (count .write-be-uint .ensures))) (filled refl (c .before .before .put-bytes .ensures))
+    (filled-more (k .result) (rw (← k .ensures .0) at (filled refl (count .put-head .ensures))) (filled refl (c .before .before .put-bytes .ensures))
     (length-toBytes (k .result) _))))
 
 pub put-counted-spec : {M : Type 1} → statement M
 put-counted-spec =
     tie.close
-    (tie.spec (λ c κs. search needs) returns (λ c κs. search needs) (λ c. search needs) returns-2 (λ c κs. search needs) write-be-uint-requires
+    (tie.spec (λ c κs. search needs) returns (λ c κs. search needs) (λ c. search needs) returns-2 (λ c κs. search needs)
     (λ c. search needs) (λ c. search needs) (λ c. search needs) (λ c κs. search needs) (λ c. search needs) returns-3)

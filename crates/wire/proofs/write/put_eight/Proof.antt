@@ -1,19 +1,24 @@
--- `wire::write::put_eight` meets its contract: a number below 2^64 fits in eight bytes. Assumes nothing.
-use Prim.Native.Nat.{ℕ, _+_, _*_, _^_}
-use mathlib.Core.Path.{_≡_, ap}
-use native.Mathlib.Omega.{arith}
+-- `wire::write::put_eight` meets its contract: two fours, the high one and the low. Assumes nothing.
+use mathlib.Core.Path.{refl, sym}
 use borrow.Author.Needs.{needs}
-use Rattle.paper.specs.Answer.{accepted}
-use Rattle.paper.specs.Bytes.{toBytes}
-use Rattle.wire.proofs.Writes.{passed}
+use Rattle.paper.proofs.Bytes.{length-toBytes}
+use Rattle.wire.proofs.Over.{filled-more, filled-as}
+use Rattle.wire.proofs.Writes.{refuses, writes, filled}
+use Rattle.wire.proofs.FieldBytes.{toBytes-parts}
 use Rattle.wire.proofs.write.put_eight.Statement.{statement}
 use Rattle.wire.proofs.write.put_eight.Tie as tie
 
-low-half : (x : ℕ) → x ≡ 0 * 2 ^ 64 + x
-low-half x = omega arith
-
 returns : tie.Need-returns
-returns c = passed (ap (λ (n : ℕ). accepted (toBytes 8 n)) (low-half _)) (c .before .before .write-be-uint .ensures)
+returns c = refuses 8 (length-toBytes 8 _) (search needs)
+
+returns-2 : tie.Need-returns-2
+returns-2 c =
+    writes 8 (length-toBytes 8 _) (search needs)
+    (filled-as (sym (toBytes-parts 4 4 _ (search needs)))
+    (filled-more 4 (filled refl (c .before .before .before .before .before .before .put-four .ensures)) (filled refl (c .before .before .put-four2 .ensures)) (length-toBytes 4 _)))
 
 pub put-eight-spec : {M : Type 1} → statement M
-put-eight-spec = tie.close (tie.spec (λ c κs. search needs) (λ c. search needs) returns)
+put-eight-spec =
+    tie.close
+    (tie.spec returns (λ c. search needs) (λ c κs. search needs) (λ c. search needs) (λ c. search needs) (λ c. search needs) (λ c. search needs)
+    (λ c κs. search needs) (λ c. search needs) returns-2)

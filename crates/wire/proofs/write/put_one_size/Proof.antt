@@ -13,27 +13,25 @@ returns c =
     let k = c .before .before .len in
     rw (← k .ensures .0) (refuses _ (length-one (k .result) (c .before .width-of .ensures)) (search needs))
 
-write-be-uint-requires : tie.Need-write-be-uint-requires
-write-be-uint-requires c κs =
-    let k = c .before .before .before .before .len in
-    rw (c .before .size-from .ensures, k .ensures .0) (prefix-width (c .before .before .before .before .before .before .args .prefix) (c .before .before .before .width-of .ensures))
+put-head-requires : tie.Need-put-head-requires
+put-head-requires c κs = prefix-width (c .before .before .before .before .before .args .prefix) (c .before .before .width-of .ensures)
 
-write-be-uint-requires-2 : tie.Need-write-be-uint-requires-2
-write-be-uint-requires-2 c κs = c .before .before .before .before .before .before .before .width-of .ensures .holds .fit .0
+write-be-uint-requires : tie.Need-write-be-uint-requires
+write-be-uint-requires c κs = c .before .before .before .before .before .before .width-of .ensures .holds .fit .0
 
 returns-2 : tie.Need-returns-2
 returns-2 c =
     let head = c .before .before .before .before .before .before in
-    let w = head .before .before .before .before .width-of in
-    let k = head .before .before .before .before .before .len in
+    let w = head .before .before .before .width-of in
+    let k = head .before .before .before .before .len in
     rw (← k .ensures .0)
     (writes _ (length-one (k .result) (w .ensures)) (search needs)
     (filled-as (one-size (k .result) (w .ensures))
-    (filled-more (k .result) (rw (head .before .before .size-from .ensures) at (filled refl (head .write-be-uint .ensures)))
-    (filled refl (c .before .before .write-be-uint2 .ensures)) (length-toBytes (k .result) _))))
+    (filled-more (k .result) (rw (← k .ensures .0) at (filled refl (head .put-head .ensures))) (filled refl (c .before .before .write-be-uint .ensures))
+    (length-toBytes (k .result) _))))
 
 pub put-one-size-spec : {M : Type 1} → statement M
 put-one-size-spec =
     tie.close
-    (tie.spec (λ c κs. search needs) (λ c κs. search needs) (λ c. search needs) returns (λ c κs. search needs) write-be-uint-requires (λ c. search needs)
-    (λ c. search needs) (λ c. search needs) write-be-uint-requires-2 (λ c. search needs) returns-2)
+    (tie.spec (λ c κs. search needs) (λ c κs. search needs) (λ c. search needs) returns put-head-requires (λ c. search needs)
+    (λ c. search needs) (λ c. search needs) write-be-uint-requires (λ c. search needs) returns-2)
