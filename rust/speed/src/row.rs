@@ -72,6 +72,9 @@ pub struct Codec<R, W> {
 
 /// The loop that is timed: makes the call so many times, once at least, and answers what the last one answered. Each answer is
 /// left in memory as if someone looked at it there.
+///
+/// What a call is handed is hidden from the compiler behind a reference. A slice that is hidden itself is stored as two words and
+/// fetched as one wide one, which stalls the side that takes its arguments from the stack.
 fn repeat<A>(times: u64, mut call: impl FnMut() -> A) -> A {
     let mut left = times;
     loop {
@@ -85,11 +88,15 @@ fn repeat<A>(times: u64, mut call: impl FnMut() -> A) -> A {
 }
 
 fn reading<I: Copy, A>(input: I, read: impl Fn(I) -> A) -> impl Fn(u64, &mut [u8]) -> A {
-    move |times, _| repeat(times, || read(black_box(input)))
+    move |times, _| repeat(times, || read(*black_box(&input)))
 }
 
 fn writing<V, A>(value: V, write: impl Fn(&V, &mut [u8]) -> A) -> impl Fn(u64, &mut [u8]) -> A {
-    move |times, room| repeat(times, || write(black_box(&value), black_box(&mut *room)))
+    move |times, mut room| {
+        repeat(times, || {
+            write(black_box(&value), &mut **black_box(&mut room))
+        })
+    }
 }
 
 fn must_agree(what: &str, same: bool) {
