@@ -40,6 +40,7 @@ toBytes-parts (suc k) j n h =
     let cut : n % 256 ^ (k + j) ≡ q * 256 ^ j + n % 256 ^ j = rw (pow-add 256 k j) (mod-mul n (pow-pos k) (pow-pos j)) in
     rw (suc-add k j, top, toBytes-parts k j (n % 256 ^ (k + j)) (mod-lt n (pow-pos (k + j))), cut, digits-div q low, digits-mod q low)
 
+-- a number in one byte is that byte
 pub one-byte : (b : ℕ) → toBytes 1 b ≡ b ∷ []
 unfolding toBytes
 one-byte b = let whole : b / 1 ≡ b = omega arith in rw whole

@@ -3,7 +3,7 @@ use crate::available::available_at;
 use crate::refusal::Refusal;
 use crate::size::Size;
 ghost use mathlib.Core.Path.{_≡_};
-ghost use Prim.Native.Nat.{_+_, _^_, _≤_, _<_};
+ghost use Prim.Native.Nat.{_+_, _≤_, _<_};
 ghost use lib.ListN.{length, take, drop};
 ghost use Rattle.paper.specs.Bytes.{ofBytes};
 ghost use Rattle.wire.specs.Size.{value};
@@ -54,7 +54,7 @@ pub(crate) fn gather(s: &[u8], at: usize, width: usize) -> Size
     let above = width - 8;
     Size {
         high: few(s, at, above),
-        low: eight(s, at + above),
+        low: few(s, at + above, 8),
     }
 }
 
@@ -89,26 +89,6 @@ pub(crate) fn pair(s: &[u8], at: usize) -> usize
     high * 256 + low
 }
 
-// The number in the four bytes of `s` from `at` on, which are there.
-fn four(s: &[u8], at: usize) -> usize
-    requires { ⌜ at + 4 ≤ length (now s) ⌝ }
-    ensures { λ r. ⌜ (r ≡ ofBytes (take 4 (drop at (now (s .entry))))) × (r < 2 ^ 32) ⌝ }
-{
-    let high = pair(s, at);
-    let low = pair(s, at + 2);
-    high * 0x1_0000 + low
-}
-
-// The number in the eight bytes of `s` from `at` on, which are there. With no loop the compiler loads them at once.
-fn eight(s: &[u8], at: usize) -> u64
-    requires { ⌜ at + 8 ≤ length (now s) ⌝ }
-    ensures { λ r. ⌜ r ≡ ofBytes (take 8 (drop at (now (s .entry)))) ⌝ }
-{
-    let high = four(s, at);
-    let low = four(s, at + 4);
-    (high * 0x1_0000_0000 + low) as u64
-}
-
 pub enum EightAnswer {
     Accepted(u64, usize),
     Refused(Refusal),
@@ -136,5 +116,5 @@ pub fn eight_at(s: &[u8], at: usize) -> EightAnswer
             available,
         });
     }
-    EightAnswer::Accepted(eight(s, at), at + 8)
+    EightAnswer::Accepted(few(s, at, 8), at + 8)
 }

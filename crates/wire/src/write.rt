@@ -62,7 +62,7 @@ pub fn put_bytes(src: &[u8], out: &mut [u8]) -> WriteAnswer
     WriteAnswer::Accepted(needed)
 }
 
-// High byte first, as are the two pairs.
+// High byte first: two pairs, the high one in front.
 fn put_four(x: u32, out: &mut [u8]) -> WriteAnswer
     ensures { λ r. ⌜ Wrote (accepted (toBytes 4 x)) (now (out .entry)) r (now (out .exit)) ⌝ }
 {
@@ -76,7 +76,7 @@ fn put_four(x: u32, out: &mut [u8]) -> WriteAnswer
     WriteAnswer::Accepted(4)
 }
 
-// High byte first.
+// High byte first: two fours, the high one in front.
 pub fn put_eight(x: u64, out: &mut [u8]) -> WriteAnswer
     ensures { λ r. ⌜ Wrote (accepted (toBytes 8 x)) (now (out .entry)) r (now (out .exit)) ⌝ }
 {

@@ -19,18 +19,18 @@ returns c = search needs
 few-requires-2 : tie.Need-few-requires-2
 few-requires-2 c κs = search needs
 
-add-eight : tie.Need-add-eight
-add-eight c = search needs
+add-few : tie.Need-add-few
+add-few c = search needs
 
-eight-requires : tie.Need-eight-requires
-eight-requires c κs = search needs
+few-requires-3 : tie.Need-few-requires-3
+few-requires-3 c κs = search needs
 
 returns-2 : tie.Need-returns-2
 returns-2 c =
     let a = c .before .before .before .before .args in
     let whole : a .width - 8 + 8 ≡ a .width = omega arith in
-    rw (c .before .few2 .ensures, c .eight .ensures)
+    rw (c .before .few2 .ensures, c .few3 .ensures)
     (of-run (a .s .now) (a .at) (a .width - 8) 8 (omega arith) ∙ ap (λ (w : ℕ). ofBytes (take w (drop (a .at) (a .s .now)))) whole)
 
 pub gather-spec : {M : Type 1} → statement M
-gather-spec = tie.close (tie.spec few-requires returns few-requires-2 add-eight eight-requires returns-2)
+gather-spec = tie.close (tie.spec few-requires returns few-requires-2 add-few few-requires-3 returns-2)
