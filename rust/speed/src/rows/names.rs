@@ -1,0 +1,24 @@
+//! The check of a name alone.
+use crate::messages::{TEXTS, Text, name};
+use crate::row::{Row, read_only};
+
+pub fn rows() -> Vec<Row> {
+    names().map(|(len, text)| name_check(len, text)).collect()
+}
+
+/// The names that are checked, and read and written in requests.
+pub fn names() -> impl Iterator<Item = (usize, Text)> {
+    [20, 200, 65_535]
+        .into_iter()
+        .flat_map(|len| TEXTS.map(|text| (len, text)))
+}
+
+/// The check alone, against the one that the original calls.
+fn name_check(len: usize, text: Text) -> Row {
+    let what = format!("name check, {len} bytes of {}", text.called());
+    let name: &'static [u8] = name(text, len).leak();
+    let calls = (core::str::from_utf8, skrolvind::valid_up_to);
+    read_only(&what, len, name, calls, |original, port| {
+        original.is_ok_and(|text| text.len() == *port)
+    })
+}
