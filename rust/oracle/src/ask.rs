@@ -13,7 +13,7 @@ use crate::plain::{FileTransfer, NextCode, Refusal, Routine, place};
 use crate::{Decode, DecodeIter, Encode};
 
 /// The refusal by document 01's table.
-pub(crate) fn refusal(error: Error) -> Refusal {
+pub fn refusal(error: Error) -> Refusal {
     match error {
         Error::InsufficientData(i) => Refusal::new(1, i.needed as u64, i.available as u64),
         Error::IncorrectMessageLengthOrInvalidFormat => Refusal::new(2, 0, 0),

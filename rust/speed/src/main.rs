@@ -5,7 +5,9 @@
 mod arguments;
 mod batch;
 mod clock;
+mod desk;
 mod listing;
+mod log;
 mod messages;
 mod row;
 mod rows;

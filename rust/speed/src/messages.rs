@@ -6,9 +6,22 @@ pub enum Text {
     Ascii,
     TwoBytes,
     ThreeBytes,
+    FourBytes,
+    /// Words of ASCII with single letters of two bytes among it.
+    Mixed,
 }
 
-pub const TEXTS: [Text; 3] = [Text::Ascii, Text::TwoBytes, Text::ThreeBytes];
+pub const TEXTS: [Text; 5] = [
+    Text::Ascii,
+    Text::TwoBytes,
+    Text::ThreeBytes,
+    Text::FourBytes,
+    Text::Mixed,
+];
+
+const MIXED: [char; 14] = [
+    'Z', 'ü', 'r', 'i', 'c', 'h', '/', 'G', 'e', 'n', 'è', 'v', 'e', '/',
+];
 
 impl Text {
     pub const fn called(self) -> &'static str {
@@ -16,15 +29,19 @@ impl Text {
             Self::Ascii => "ASCII",
             Self::TwoBytes => "two-byte characters",
             Self::ThreeBytes => "three-byte characters",
+            Self::FourBytes => "four-byte characters",
+            Self::Mixed => "mixed text",
         }
     }
 
-    /// The characters in turn: Latin, Cyrillic and Chinese, so that their bytes vary as those of words do.
+    /// The characters in turn: Latin, Cyrillic, Chinese and pictures, so that their bytes vary as those of words do, or words.
     fn character(self, turn: u32) -> char {
         let number = match self {
             Self::Ascii => 0x61 + turn % 26,
             Self::TwoBytes => 0x430 + turn % 32,
             Self::ThreeBytes => 0x4E00 + turn * 37 % 0x2000,
+            Self::FourBytes => 0x1F300 + turn * 37 % 0x400,
+            Self::Mixed => return MIXED[turn as usize % MIXED.len()],
         };
         char::from_u32(number).expect("these numbers are characters")
     }
@@ -46,16 +63,34 @@ pub fn name(text: Text, len: usize) -> Vec<u8> {
     name.into_bytes()
 }
 
-/// An `AddFile` request with sizes of two bytes each.
-pub fn add_file_request(name: &[u8]) -> Vec<u8> {
+/// The start of a request: mode and name. Of `DeleteFile` and `ReadDir` it is all.
+fn named(mode: u8, name: &[u8]) -> Vec<u8> {
     let len = u16::try_from(name.len()).expect("a name has at most 65,535 bytes");
-    let mut message = vec![1];
-    message.extend(len.to_be_bytes());
-    message.extend(name);
-    message.extend([0x11, 2]);
-    message.extend(40_000_u16.to_be_bytes());
-    message.extend(12_345_u16.to_be_bytes());
-    message
+    [&[mode], &len.to_be_bytes()[..], name].concat()
+}
+
+/// An `AddFile` request with sizes of two bytes each.
+fn sized_request(name: &[u8], format: u8, sizes: [u16; 2]) -> Vec<u8> {
+    let sizes = sizes.map(u16::to_be_bytes).concat();
+    [&named(1, name)[..], &[format, 2], &sizes].concat()
+}
+
+/// One of a file that is packed.
+pub fn add_file_request(name: &[u8]) -> Vec<u8> {
+    sized_request(name, 0x11, [40_000, 12_345])
+}
+
+/// One of a file that is not, so that its sizes are to be equal.
+pub fn unpacked_request(name: &[u8], sizes: [u16; 2]) -> Vec<u8> {
+    sized_request(name, 0x00, sizes)
+}
+
+pub fn delete_file_request(name: &[u8]) -> Vec<u8> {
+    named(2, name)
+}
+
+pub fn read_dir_request(name: &[u8]) -> Vec<u8> {
+    named(5, name)
 }
 
 /// The start of a response: mode, a block length of four bytes, and the format byte.
@@ -67,12 +102,25 @@ pub fn add_file_response() -> Vec<u8> {
     response(1)
 }
 
+/// The mode byte is all of it.
+pub fn delete_file_response() -> Vec<u8> {
+    vec![2]
+}
+
 /// With two sizes that take eight bytes each.
 pub fn read_file_response() -> Vec<u8> {
     let mut message = response(4);
     message.extend(8_u16.to_be_bytes());
     message.extend(0x0123_4567_89AB_CDEF_u64.to_be_bytes());
     message.extend(0x0023_4567_89AB_CDEF_u64.to_be_bytes());
+    message
+}
+
+/// With a size that takes four bytes.
+pub fn read_dir_response() -> Vec<u8> {
+    let mut message = response(5);
+    message.extend(4_u16.to_be_bytes());
+    message.extend(0x1234_5678_u32.to_be_bytes());
     message
 }
 

@@ -92,11 +92,7 @@ fn reading<I: Copy, A>(input: I, read: impl Fn(I) -> A) -> impl Fn(u64, &mut [u8
 }
 
 fn writing<V, A>(value: V, write: impl Fn(&V, &mut [u8]) -> A) -> impl Fn(u64, &mut [u8]) -> A {
-    move |times, mut room| {
-        repeat(times, || {
-            write(black_box(&value), &mut **black_box(&mut room))
-        })
-    }
+    move |times, mut room| repeat(times, || write(black_box(&value), black_box(&mut room)))
 }
 
 fn must_agree(what: &str, same: bool) {

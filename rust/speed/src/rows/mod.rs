@@ -3,6 +3,7 @@ mod codes;
 mod listings;
 mod names;
 mod records;
+mod refusals;
 mod requests;
 mod responses;
 mod routines;
@@ -17,6 +18,7 @@ pub fn rows() -> Vec<Row> {
         requests::rows(),
         responses::rows(),
         routines::rows(),
+        refusals::rows(),
         codes::rows(),
         names::rows(),
         records::rows(),

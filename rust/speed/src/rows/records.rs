@@ -1,5 +1,6 @@
 //! Many records or messages in one call.
 use crate::batch::{self, List, Morning};
+use crate::log;
 use crate::row::{Row, read_only};
 use crate::sheet;
 
@@ -9,6 +10,7 @@ pub fn rows() -> Vec<Row> {
         tallied("a year's sheet", sheet::year(65_536)),
         tallied("every cell in turn", sheet::cells_in_turn(65_536)),
     ];
+    rows.extend([100, 65_536].map(replayed));
     for (called, refused) in [("all good", 0), ("8 in a hundred refused", 8)] {
         let morning = batch::morning(refused);
         rows.push(read_in_one_call(
@@ -33,6 +35,16 @@ fn tallied(called: &str, records: Vec<u8>) -> Row {
     let records: &'static [u8] = records.leak();
     let calls = (sheet::tally, skrolvind::tally_records);
     read_only(&what, records.len(), records, calls, |original, port| {
+        original.is_some() && *original == port.ok()
+    })
+}
+
+/// A log of recorded transfers, against the same loop in Rust.
+fn replayed(count: usize) -> Row {
+    let what = format!("log of {count} records");
+    let log: &'static [u8] = log::day(count).leak();
+    let calls = (log::replay, skrolvind::replay_log);
+    read_only(&what, log.len(), log, calls, |original, port| {
         original.is_some() && *original == port.ok()
     })
 }

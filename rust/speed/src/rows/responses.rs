@@ -9,9 +9,14 @@ use skrolvind::Response;
 pub fn rows() -> Vec<Row> {
     vec![
         response("AddFile response", messages::add_file_response()),
+        response("DeleteFile response", messages::delete_file_response()),
         response(
             "ReadFile response, sizes of 8 bytes",
             messages::read_file_response(),
+        ),
+        response(
+            "ReadDir response, size of 4 bytes",
+            messages::read_dir_response(),
         ),
         response("ResumeFile response", messages::resume_file_response()),
     ]
