@@ -3,14 +3,28 @@ use crate::row::{Side, Way};
 use std::env::Args;
 use std::process::exit;
 
-const USAGE: &str = "usage: speed [--only TEXT] [--rounds N] [--times]
+const USAGE: &str = "usage: speed [--only TEXT] [--rounds N] [--times | --plain]
+       speed [--only TEXT] --rows
        speed [--only TEXT] --side original|port --iterations N [--way reading|writing]";
+
+/// What is printed.
+#[derive(Clone, Copy, PartialEq, Eq)]
+pub enum Print {
+    /// A table of ratios.
+    Ratios,
+    /// The same with nanoseconds beside them.
+    Times,
+    /// The ratios in lines for a program to read.
+    Plain,
+    /// The rows' names alone, without timing them.
+    Names,
+}
 
 pub struct Arguments {
     /// Only the rows whose name contains this text.
     pub only: String,
     pub rounds: u32,
-    pub times: bool,
+    pub print: Print,
     /// The side that is to run alone, without a clock; then, how often each of its calls is made, and which of them.
     pub side: Option<Side>,
     pub iterations: Option<u64>,
@@ -22,7 +36,7 @@ impl Arguments {
         let mut arguments = Self {
             only: String::new(),
             rounds: 25,
-            times: false,
+            print: Print::Ratios,
             side: None,
             iterations: None,
             way: None,
@@ -43,9 +57,10 @@ impl Arguments {
 
     /// Takes an option and its value; answers nothing where it is none of ours.
     fn take(&mut self, word: &str, words: &mut Args) -> Option<()> {
-        if word == "--times" {
-            self.times = true;
-            return Some(());
+        if let Some(print) = printed(word) {
+            let only_one = self.print == Print::Ratios;
+            self.print = print;
+            return only_one.then_some(());
         }
         let value = words.next()?;
         match (word, value.as_str()) {
@@ -59,6 +74,15 @@ impl Arguments {
             _ => return None,
         }
         Some(())
+    }
+}
+
+fn printed(word: &str) -> Option<Print> {
+    match word {
+        "--times" => Some(Print::Times),
+        "--plain" => Some(Print::Plain),
+        "--rows" => Some(Print::Names),
+        _ => None,
     }
 }
 

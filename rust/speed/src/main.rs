@@ -1,4 +1,4 @@
-//! Times the original and this port on the same inputs, in turns, and prints their ratios as a table.
+//! Times the original and this port on the same inputs, in turns, and prints their ratios as a table, or in lines for a program.
 //!
 //! The original is called as itself, this port through its binding. With `--side` one side runs alone and without a clock, so that
 //! its instructions can be counted.
@@ -15,7 +15,7 @@ mod same;
 mod sheet;
 mod table;
 
-use arguments::Arguments;
+use arguments::{Arguments, Print};
 use row::{Row, Side, Way};
 use table::Table;
 
@@ -24,16 +24,23 @@ fn main() {
     let mut rows = rows::rows();
     rows.retain(|row| row.what.contains(&arguments.only));
     let (Some(side), Some(iterations)) = (arguments.side, arguments.iterations) else {
-        let table = Table {
-            rounds: arguments.rounds,
-            times: arguments.times,
-        };
-        return table.print(&rows);
+        return print(&rows, arguments.print, arguments.rounds);
     };
     for way in Way::BOTH {
         if arguments.way.is_none_or(|wanted| wanted == way) {
             run_alone(&rows, way, side, iterations);
         }
+    }
+}
+
+fn print(rows: &[Row], what: Print, rounds: u32) {
+    match what {
+        Print::Ratios | Print::Times => {
+            let times = what == Print::Times;
+            Table { rounds, times }.print(rows);
+        }
+        Print::Plain => table::print_plain(rows, rounds),
+        Print::Names => rows.iter().for_each(|row| println!("{}", row.what)),
     }
 }
 

@@ -14,7 +14,7 @@ impl Table {
         self.print_head();
         let mut largest = (0.0, String::new());
         for row in rows {
-            let bests = Way::BOTH.map(|way| self.best(row, way));
+            let bests = bests(row, self.rounds);
             let [reading, writing] = bests.map(|best| self.cell(best));
             println!("| {} | {} | {reading} | {writing} |", row.what, row.bytes);
             for (way, best) in ["reading", "writing"].into_iter().zip(bests) {
@@ -43,11 +43,6 @@ impl Table {
         println!("\n| What | Bytes | Reading | Writing |\n|---|---|---|---|");
     }
 
-    fn best(&self, row: &Row, way: Way) -> Option<Best> {
-        let sides = row.sides(way)?;
-        Some(best_of(self.rounds, sides, row.bytes))
-    }
-
     fn cell(&self, best: Option<Best>) -> String {
         match best {
             None => "–".to_owned(),
@@ -56,5 +51,20 @@ impl Table {
             }
             Some(b) => format!("{:.2}", b.ratio()),
         }
+    }
+}
+
+/// The best of reading and of writing, where the row has them.
+fn bests(row: &Row, rounds: u32) -> [Option<Best>; 2] {
+    Way::BOTH.map(|way| Some(best_of(rounds, row.sides(way)?, row.bytes)))
+}
+
+/// Times every row and prints it at once, in a line: its name, the ratio of reading and that of writing, or `-`, between tabs.
+pub fn print_plain(rows: &[Row], rounds: u32) {
+    for row in rows {
+        let cell =
+            |best: Option<Best>| best.map_or("-".to_owned(), |b| format!("{:.2}", b.ratio()));
+        let [reading, writing] = bests(row, rounds).map(cell);
+        println!("{}\t{reading}\t{writing}", row.what);
     }
 }
