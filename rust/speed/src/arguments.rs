@@ -49,7 +49,11 @@ impl Arguments {
             }
         }
         let alone = arguments.side.is_some();
-        if alone != arguments.iterations.is_some() || arguments.way.is_some() && !alone {
+        let printed = arguments.print != Print::Ratios;
+        if alone != arguments.iterations.is_some()
+            || arguments.way.is_some() && !alone
+            || printed && alone
+        {
             usage()
         }
         arguments
