@@ -14,9 +14,13 @@ pub fn names() -> impl Iterator<Item = (usize, Text)> {
         .chain(of(65_535, &TEXTS[..3]))
 }
 
+pub fn called(len: usize, text: Text) -> String {
+    format!("{len} bytes of {}", text.called())
+}
+
 /// The check alone, against the one that the original calls.
 fn name_check(len: usize, text: Text) -> Row {
-    let what = format!("name check, {len} bytes of {}", text.called());
+    let what = format!("name check, {}", called(len, text));
     let name: &'static [u8] = name(text, len).leak();
     let calls = (core::str::from_utf8, skrolvind::valid_up_to);
     read_only(&what, len, name, calls, |original, port| {

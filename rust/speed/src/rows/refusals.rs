@@ -9,26 +9,7 @@ use oracle::itself::{
 use skrolvind::Refusal;
 
 pub fn rows() -> Vec<Row> {
-    let request = messages::add_file_request(&name(Text::Ascii, 20));
-    let (name_end, width) = (3 + 20, 3 + 20 + 1);
-    let cut = |len| request[..len].to_vec();
-    let with = |place, byte| changed(&request, place, byte);
-    let mut rows: Vec<_> = [
-        ("that is empty", vec![]),
-        ("cut in its name", cut(name_end - 1)),
-        (
-            "with a name that is not UTF-8 at its end",
-            with(name_end - 1, 0xFF),
-        ),
-        ("of an unknown mode", with(0, 9)),
-        ("cut in its sizes", cut(request.len() - 1)),
-        ("of width 17", with(width, 17)),
-    ]
-    .map(|(which, message)| {
-        let calls = (RequestFileTransferRequest::decode, skrolvind::read_request);
-        refused(&format!("request {which}"), message, calls)
-    })
-    .into();
+    let mut rows = Vec::from(requests());
     rows.push(refused(
         "response of an unknown mode",
         changed(&messages::add_file_response(), 0, 9),
@@ -47,6 +28,26 @@ pub fn rows() -> Vec<Row> {
     ));
     rows.push(number(0x0100_0000));
     rows
+}
+
+fn requests() -> [Row; 6] {
+    let request = messages::add_file_request(&name(Text::Ascii, 20));
+    let (name_end, width) = (3 + 20, 3 + 20 + 1);
+    let cut = |len| request[..len].to_vec();
+    let with = |place, byte| changed(&request, place, byte);
+    let bad_name = with(name_end - 1, 0xFF);
+    [
+        ("that is empty", vec![]),
+        ("cut in its name", cut(name_end - 1)),
+        ("with a name that is not UTF-8 at its end", bad_name),
+        ("of an unknown mode", with(0, 9)),
+        ("cut in its sizes", cut(request.len() - 1)),
+        ("of width 17", with(width, 17)),
+    ]
+    .map(|(which, message)| {
+        let calls = (RequestFileTransferRequest::decode, skrolvind::read_request);
+        refused(&format!("request {which}"), message, calls)
+    })
 }
 
 /// The message with one other byte.

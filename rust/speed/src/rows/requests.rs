@@ -1,6 +1,6 @@
 //! Requests that are read, written, written anew and judged.
 use super::encoded;
-use super::names::names;
+use super::names::{called, names};
 use crate::desk;
 use crate::messages::{self, Text, name};
 use crate::row::{Codec, Row, made_of, read_and_written, read_only};
@@ -42,10 +42,6 @@ pub fn rows() -> Vec<Row> {
     rows.extend([20, 200].map(rewritten));
     rows.extend(judged());
     rows
-}
-
-fn called(len: usize, text: Text) -> String {
-    format!("{len} bytes of {}", text.called())
 }
 
 type OriginalRead = Read<Original<'static>>;
