@@ -7,7 +7,7 @@ use joined_requests::{SplitAnswer, split_joined};
 
 // How many pieces were found: all of them, or beside a refusal those before it.
 #[repr(C)]
-#[derive(Drop)]
+#[derive(Clone, Copy)]
 pub struct SplitRecord {
     pub number: u64,
     pub first: u64,

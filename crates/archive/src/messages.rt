@@ -27,7 +27,7 @@ use wire::size::Size;
 // A whole message that was read. `service` is its service byte; `start` and `len` are the place of the name, the block length or the routine record;
 // `negative_service`, `code` and `listed` are of a negative answer. What the sort lacks is 0, as is what the kind lacks.
 #[repr(C)]
-#[derive(Drop)]
+#[derive(Clone, Copy)]
 pub struct MessageRecord {
     pub number: u64,
     pub first: u64,

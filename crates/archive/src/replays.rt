@@ -9,7 +9,7 @@ use replay::{Last, LogRecord, ReplayAnswer, State, StepAnswer, Transfer, run, st
 
 // The state of a recorded transfer, or beside a refusal the state before it. `open` and `has_last` are 0 or 1; without a last counter `last` is 0.
 #[repr(C)]
-#[derive(Drop)]
+#[derive(Clone, Copy)]
 pub struct ReplayRecord {
     pub number: u64,
     pub first: u64,

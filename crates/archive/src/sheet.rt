@@ -9,7 +9,7 @@ use tally::sheet::{Sheet, sheet_of};
 
 // A sheet of records counted: month by month, ten counts each.
 #[repr(C)]
-#[derive(Drop)]
+#[derive(Clone, Copy)]
 pub struct TallyRecord {
     pub number: u64,
     pub first: u64,

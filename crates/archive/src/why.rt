@@ -10,7 +10,7 @@ use reason::response::why_response;
 
 // The field that stopped the message, and where it begins; both are 0 where the message is accepted.
 #[repr(C)]
-#[derive(Drop)]
+#[derive(Clone, Copy)]
 pub struct WhyRecord {
     pub number: u64,
     pub first: u64,

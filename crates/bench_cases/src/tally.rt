@@ -5,7 +5,7 @@ ghost use Rattle.bench_cases.specs.Tally.{nothing_yet, counted};
 use libc::STDOUT_FILENO;
 use std::num::wrapping_add_u64;
 
-#[derive(Drop)]
+#[derive(Clone, Copy)]
 pub(crate) struct Tally {
     rows: u64,
     differ: u64,

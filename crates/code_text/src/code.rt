@@ -13,7 +13,7 @@ use wire::refusal::Refusal;
 use wire::write::{WriteAnswer, put_byte};
 
 // A code, or the refusal.
-#[derive(Drop)]
+#[derive(Clone, Copy)]
 pub enum CodeAnswer {
     Accepted(DtcRecord),
     Refused(Refusal),

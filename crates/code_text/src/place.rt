@@ -5,14 +5,14 @@ ghost use Rattle.code_text.specs.CodeText.{sort_of, FoundWrong};
 
 use crate::character::can_stand;
 
-#[derive(Drop)]
+#[derive(Clone, Copy)]
 pub(crate) enum Sort {
     OneCode,
     Lines,
 }
 
 // Where something can't stand first: the end of the text counts as its length.
-#[derive(Drop)]
+#[derive(Clone, Copy)]
 pub(crate) enum Wrong {
     Nowhere,
     At(usize),

@@ -9,7 +9,7 @@ use request_file_transfer::read::{RequestAnswer, RequestFileTransferRequest, rea
 use wire::refusal::Refusal;
 use wire::size::{Order, Size, compare};
 
-#[derive(Drop)]
+#[derive(Clone, Copy)]
 pub enum DeskAnswer {
     Passed,
     Refused(Refusal),

@@ -23,7 +23,7 @@ use wire::write::{WriteAnswer, put_byte};
 // ---- The trouble code.
 
 // A trouble code: three bytes, high first.
-#[derive(Drop)]
+#[derive(Clone, Copy)]
 pub struct DtcRecord {
     high_byte: u8,
     middle_byte: u8,
@@ -31,14 +31,14 @@ pub struct DtcRecord {
 }
 
 // The record of a number, or the refusal.
-#[derive(Drop)]
+#[derive(Clone, Copy)]
 pub enum DtcRecordAnswer {
     Accepted(DtcRecord),
     Refused(Refusal),
 }
 
 // A record and where the next field begins, or the refusal.
-#[derive(Drop)]
+#[derive(Clone, Copy)]
 pub enum DtcRecordRead {
     Accepted(DtcRecord, usize),
     Refused(Refusal),
@@ -57,7 +57,7 @@ impl DtcRecordRead {
 }
 
 // The next of a list of records: nothing where the message has ended.
-#[derive(Drop)]
+#[derive(Clone, Copy)]
 pub enum DtcRecordNext {
     Nothing,
     Record(DtcRecord, usize),
@@ -198,13 +198,13 @@ impl DtcRecord {
 // ---- The status mask.
 
 // The status of a code, or a mask of statuses to look for: a byte with a name for each bit.
-#[derive(Drop)]
+#[derive(Clone, Copy)]
 pub struct DtcStatusMask {
     bits: u8,
 }
 
 // The mask and where the next field begins, or the refusal.
-#[derive(Drop)]
+#[derive(Clone, Copy)]
 pub enum DtcStatusMaskRead {
     Accepted(DtcStatusMask, usize),
     Refused(Refusal),
@@ -359,13 +359,13 @@ impl DtcStatusMask {
 // ---- The severity mask.
 
 // How grave a code is: a class in bits 0 to 4 and what to do in bits 5 to 7.
-#[derive(Drop)]
+#[derive(Clone, Copy)]
 pub struct DtcSeverityMask {
     bits: u8,
 }
 
 // The mask and where the next field begins, or the refusal.
-#[derive(Drop)]
+#[derive(Clone, Copy)]
 pub enum DtcSeverityMaskRead {
     Accepted(DtcSeverityMask, usize),
     Refused(Refusal),
@@ -516,15 +516,15 @@ impl DtcSeverityMask {
 // ---- The functional group.
 
 // A code from 0xD1 to 0xDF, which only the reader of a byte makes.
-#[derive(Drop)]
+#[derive(Clone, Copy)]
 pub struct LegislativeCode(u8);
 
 // A code that no group has, which only the reader of a byte makes.
-#[derive(Drop)]
+#[derive(Clone, Copy)]
 pub struct ReservedGroupCode(u8);
 
 // Which part of the vehicle a code belongs to. Each byte is one of these, and each code is held once.
-#[derive(Drop)]
+#[derive(Clone, Copy)]
 pub enum FunctionalGroupIdentifier {
     EmissionsSystemGroup,
     SafetySystemGroup,
@@ -534,7 +534,7 @@ pub enum FunctionalGroupIdentifier {
 }
 
 // The group and where the next field begins, or the refusal.
-#[derive(Drop)]
+#[derive(Clone, Copy)]
 pub enum FunctionalGroupIdentifierRead {
     Accepted(FunctionalGroupIdentifier, usize),
     Refused(Refusal),
@@ -596,11 +596,11 @@ impl FunctionalGroupIdentifier {
 // ---- The format.
 
 // A code that no format has, which only the reader of a byte makes.
-#[derive(Drop)]
+#[derive(Clone, Copy)]
 pub struct ReservedFormatCode(u8);
 
 // Which document's codes these are. Each byte is one of these, and each code is held once.
-#[derive(Drop)]
+#[derive(Clone, Copy)]
 pub enum DtcFormatIdentifier {
     SaeJ2012DaDtcFormat00,
     Iso14229_1DtcFormat,
@@ -642,11 +642,11 @@ impl DtcFormatIdentifier {
 // ---- The stored-data record number.
 
 // The number of a stored data record: a byte of a type of its own, so that a status byte cannot be passed for it.
-#[derive(Drop)]
+#[derive(Clone, Copy)]
 pub struct DtcStoredDataRecordNumber(u8);
 
 // The number and where the next field begins, or the refusal.
-#[derive(Drop)]
+#[derive(Clone, Copy)]
 pub enum DtcStoredDataRecordNumberRead {
     Accepted(DtcStoredDataRecordNumber, usize),
     Refused(Refusal),

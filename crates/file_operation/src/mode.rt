@@ -5,7 +5,7 @@ ghost use Rattle.file_operation.specs.Mode.{kind_of, mode_said, mode_refusal};
 
 use wire::refusal::Refusal;
 
-#[derive(Drop)]
+#[derive(Clone, Copy)]
 pub enum FileOperationMode {
     AddFile,
     DeleteFile,
@@ -15,7 +15,7 @@ pub enum FileOperationMode {
     ResumeFile,
 }
 
-#[derive(Drop)]
+#[derive(Clone, Copy)]
 pub enum ModeAnswer {
     Accepted(FileOperationMode),
     Refused(Refusal),

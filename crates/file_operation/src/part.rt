@@ -6,7 +6,7 @@ use wire::place::Place;
 use wire::refusal::Refusal;
 
 // The place, which can be empty, or why the message is refused.
-#[derive(Drop)]
+#[derive(Clone, Copy)]
 pub enum PartAnswer {
     At(Place),
     Refused(Refusal),

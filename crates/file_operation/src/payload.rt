@@ -4,7 +4,7 @@ ghost use Rattle.std.specs.Prelude.{◌≡◌};
 use wire::size::Size;
 
 // How the file is packed and encrypted: a byte that is kept as it is.
-#[derive(Drop)]
+#[derive(Clone, Copy)]
 pub struct DataFormatIdentifier(u8);
 
 impl DataFormatIdentifier {
@@ -22,27 +22,27 @@ impl DataFormatIdentifier {
 }
 
 // The sizes of the file in an AddFile, ReplaceFile or ResumeFile request.
-#[derive(Drop)]
+#[derive(Clone, Copy)]
 pub struct SizePayload {
     pub file_size_uncompressed: Size,
     pub file_size_compressed: Size,
 }
 
 // The sizes of the file in a ReadFile response.
-#[derive(Drop)]
+#[derive(Clone, Copy)]
 pub struct FileSizePayload {
     pub file_size_uncompressed: Size,
     pub file_size_compressed: Size,
 }
 
 // The size of the directory information in a ReadDir response.
-#[derive(Drop)]
+#[derive(Clone, Copy)]
 pub struct DirSizePayload {
     pub dir_info_length: Size,
 }
 
 // Where in the file a ResumeFile response goes on.
-#[derive(Drop)]
+#[derive(Clone, Copy)]
 pub struct PositionPayload {
     pub file_position: u64,
 }

@@ -6,7 +6,7 @@ use wire::refusal::Refusal;
 use wire::write::WriteAnswer;
 
 // How many bytes were written and where in the message that was read its tail begins, or the refusal.
-#[derive(Drop)]
+#[derive(Clone, Copy)]
 pub enum RewriteAnswer {
     Accepted { written: usize, tail: usize },
     Refused(Refusal),

@@ -8,14 +8,14 @@ use request_file_transfer::read::{RequestAnswer, read_request};
 use wire::refusal::Refusal;
 
 // How many pieces there are; or the refusal, and how many pieces were found before it.
-#[derive(Drop)]
+#[derive(Clone, Copy)]
 pub enum SplitAnswer {
     Accepted(usize),
     Refused(Refusal, usize),
 }
 
 // How long a piece is, or the refusal of what stands there.
-#[derive(Drop)]
+#[derive(Clone, Copy)]
 enum PieceAnswer {
     Length(usize),
     Refused(Refusal),

@@ -18,14 +18,14 @@ use wire::refusal::Refusal;
 use wire::write::WriteAnswer;
 
 // Which listing was refused: 0 neither, 1 the first, 2 the second; and how many bytes were written, or the refusal.
-#[derive(Drop)]
+#[derive(Clone, Copy)]
 pub struct ChangesAnswer {
     pub which: u8,
     pub written: WriteAnswer,
 }
 
 // What is listed of a record: nothing, or an entry with 1 for gone, 2 for differs or 3 for new, the code, the old status and the new one.
-#[derive(Drop)]
+#[derive(Clone, Copy)]
 struct Entry {
     listed: bool,
     kind: u8,

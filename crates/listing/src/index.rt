@@ -11,14 +11,14 @@ use dtc::status::DtcRecord;
 use wire::refusal::Refusal;
 
 // Counts and first places, by high byte.
-#[derive(Drop)]
+#[derive(Clone, Copy)]
 pub(crate) struct Index {
     pub(crate) counts: [u32; 256],
     pub(crate) firsts: [u32; 256],
 }
 
 // What reading the listing says, and its index: all zeros beside a refusal.
-#[derive(Drop)]
+#[derive(Clone, Copy)]
 pub struct Indexed {
     pub listing: ListingAnswer,
     pub counts: [u32; 256],
@@ -26,7 +26,7 @@ pub struct Indexed {
 }
 
 // The place of a record and the record, or the refusal.
-#[derive(Drop)]
+#[derive(Clone, Copy)]
 pub enum LookUpAnswer {
     Accepted(usize, Listed),
     Refused(Refusal),

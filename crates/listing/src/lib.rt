@@ -13,7 +13,7 @@ use dtc::status::{DtcRecord, DtcSeverityMask, DtcStatusMask};
 use wire::refusal::Refusal;
 
 // Which question a listing answers, and with it a record's form.
-#[derive(Drop)]
+#[derive(Clone, Copy)]
 pub enum SubFunction {
     // 0x02: three code bytes and a status byte.
     ByStatusMask,
@@ -22,7 +22,7 @@ pub enum SubFunction {
 }
 
 // A record: whether severity and functional unit are known, these two, a code and its status. Unknown ones are read as 0.
-#[derive(Drop)]
+#[derive(Clone, Copy)]
 pub struct Listed {
     pub known: bool,
     pub severity: DtcSeverityMask,
@@ -32,14 +32,14 @@ pub struct Listed {
 }
 
 // The availability mask and how many records there are, or the refusal.
-#[derive(Drop)]
+#[derive(Clone, Copy)]
 pub enum ListingAnswer {
     Accepted(DtcStatusMask, usize),
     Refused(Refusal),
 }
 
 // The record at a place, or nothing.
-#[derive(Drop)]
+#[derive(Clone, Copy)]
 pub enum RecordAnswer {
     Nothing,
     Record(Listed),

@@ -13,14 +13,14 @@ use dtc::status::DtcStatusMask;
 use wire::write::{WriteAnswer, put_bytes};
 
 // The mask that a word is, or nothing.
-#[derive(Drop)]
+#[derive(Clone, Copy)]
 pub enum MaskAnswer {
     Mask(DtcStatusMask),
     Nothing,
 }
 
 // Whether it goes to standard output, else to standard error; and how many bytes.
-#[derive(Drop)]
+#[derive(Clone, Copy)]
 pub struct Printed {
     pub to_output: bool,
     pub count: usize,

@@ -11,7 +11,7 @@ use routine_control::nack::{
 use wire::refusal::Refusal;
 use wire::write::{WriteAnswer, put_byte};
 
-#[derive(Drop)]
+#[derive(Clone, Copy)]
 pub struct NegativeAnswer {
     pub service: Service,
     pub code: u8,

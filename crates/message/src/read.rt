@@ -21,7 +21,7 @@ use wire::place::Place;
 use wire::refusal::Refusal;
 
 // What was read: the record of its sort and, of file transfer, where the tail begins; or the refusal. Of the other sorts the tail is always empty.
-#[derive(Drop)]
+#[derive(Clone, Copy)]
 pub enum MessageAnswer {
     FileRequest(RequestFileTransferRequest, usize),
     RoutineRequest(RoutineControlRequest),

@@ -5,7 +5,7 @@ ghost use Rattle.message.specs.Service.{sort_of, sort_said, sort_refusal, servic
 
 use wire::refusal::Refusal;
 
-#[derive(Drop)]
+#[derive(Clone, Copy)]
 pub enum Sort {
     FileRequest,
     RoutineRequest,
@@ -14,7 +14,7 @@ pub enum Sort {
     NegativeAnswer,
 }
 
-#[derive(Drop)]
+#[derive(Clone, Copy)]
 pub enum SortAnswer {
     Accepted(Sort),
     Refused(Refusal),
@@ -62,13 +62,13 @@ impl Sort {
 }
 
 // The services that we have.
-#[derive(Drop)]
+#[derive(Clone, Copy)]
 pub enum Service {
     FileTransfer,
     RoutineControl,
 }
 
-#[derive(Drop)]
+#[derive(Clone, Copy)]
 pub enum ServiceAnswer {
     Accepted(Service),
     Refused(Refusal),

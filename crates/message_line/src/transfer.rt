@@ -23,7 +23,7 @@ use wire::place::part_at;
 use wire::write::WriteAnswer;
 
 // The format byte, or a dash where the kind has none.
-#[derive(Drop)]
+#[derive(Clone, Copy)]
 pub(crate) enum Shown {
     Dash,
     Byte(u8),

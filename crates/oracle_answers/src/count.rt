@@ -6,7 +6,7 @@ use check::same;
 use libc::STDOUT_FILENO;
 use std::num::wrapping_add_u64;
 
-#[derive(Drop)]
+#[derive(Clone, Copy)]
 pub(crate) struct Tally {
     lines: u64,
     answers: u64,

@@ -46,7 +46,7 @@ pub(crate) fn put_severity(b: u8, out: &mut [u8], at: usize) -> usize
 }
 
 // What two masks are asked together.
-#[derive(Drop)]
+#[derive(Clone, Copy)]
 enum Joint {
     StatusUnion,
     StatusIntersection,

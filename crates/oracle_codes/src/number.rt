@@ -10,7 +10,7 @@ use wire::write::WriteAnswer;
 
 // Of how many numbers there is a code, and how many of these codes give their number back, are written as its three bytes, and are
 // read from those as a code that is equal.
-#[derive(Drop)]
+#[derive(Clone, Copy)]
 struct Sums {
     made: u64,
     back: u64,

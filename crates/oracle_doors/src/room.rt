@@ -11,7 +11,7 @@ use station::transfer::{
 };
 
 // What the call answered; or none was made, since the input has too few bytes for one, or the letter stands for none.
-#[derive(Drop)]
+#[derive(Clone, Copy)]
 enum Made {
     Record(WrittenRecord),
     Nothing,

@@ -1,14 +1,15 @@
 -- Document 02, Req 01: what the tally answers to some sheets, by computing the definitions.
 -- Assumes nothing.
 use mathlib.Core.Path.{◌≡◌, refl}
-use Prim.Native.Nat.{ℕ}
+use Prim.Native.Nat.{ℕ, zero}
 use mathlib.Core.Bool.{true, false}
 use mathlib.Core.List.{List, [], ◌∷◌, ◌++◌, map}
 use lib.ListN.{replicate}
-use Rattle.paper.specs.Answer.{refusal, Answer, accepted, refused}
+use Rattle.std.proofs.lemmas.List.{length-replicate}
+use Rattle.paper.specs.Answer.{Refusal, refusal, Answer, accepted, refused}
 use Rattle.paper.specs.Bytes.{of_bytes}
 use Rattle.paper.specs.Utf8.{in_range}
-use Rattle.paper.specs.Tally.{entry_of, entries, records, in_ranges, all_good, count, table, tallied, table_of}
+use Rattle.paper.specs.Tally.{entry_of, entries, records, in_ranges, all_good, count, table, good_length, tallied, table_of}
 
 -- the bytes of a record of station 7 and coach 123,456
 abbrev entry : (month direction number : ℕ) → List ℕ
@@ -68,10 +69,14 @@ pub rows_right : map (λ (r : List ℕ × Answer (List (List ℕ))). tallied r.0
 unfolding in_range entries records in_ranges all_good count table tallied
 rows_right = refl
 
+-- what the length alone decides, of two sheets of zeros of any length: so none of them is computed
+by_length : (n m : ℕ) {r q : Refusal} → good_length n ≡ refused r → good_length m ≡ refused q → map (λ (k : ℕ). tallied (replicate k 0)) (n ∷ m ∷ []) ≡ refused r ∷ refused q ∷ []
+unfolding tallied
+by_length n m e h = rw (length-replicate n zero, length-replicate m zero, e, h) refl
+
 -- 65,536 records and a piece are 10; with one record more it is 12, piece or not
 many : map (λ (n : ℕ). tallied (replicate n 0)) (524289 ∷ 524297 ∷ []) ≡ refused (refusal 10 0 0) ∷ refused (refusal 12 0 0) ∷ []
-unfolding tallied
-many = refl
+many = by_length 524289 524297 refl refl
 
 -- each refusal gives a table of zeros
 zeros : map (λ (e : ℕ). table_of (refused (refusal e 3 0))) (10 ∷ 11 ∷ 12 ∷ []) ≡ replicate 3 (replicate 12 none)

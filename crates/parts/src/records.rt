@@ -3,7 +3,7 @@
 
 // A name or a block length that was read: `start` and `len` are its place, after the count.
 #[repr(C)]
-#[derive(Drop)]
+#[derive(Clone, Copy)]
 pub struct PartRecord {
     pub number: u64,
     pub first: u64,
@@ -15,7 +15,7 @@ pub struct PartRecord {
 
 // Sizes that were read, each in two halves; one that stands alone is the uncompressed.
 #[repr(C)]
-#[derive(Drop)]
+#[derive(Clone, Copy)]
 pub struct SizesRecord {
     pub number: u64,
     pub first: u64,
@@ -28,7 +28,7 @@ pub struct SizesRecord {
 }
 
 #[repr(C)]
-#[derive(Drop)]
+#[derive(Clone, Copy)]
 pub struct PositionRecord {
     pub number: u64,
     pub first: u64,

@@ -6,7 +6,7 @@ ghost use Rattle.reason.specs.Reason.{field_said, fault_said, why_said, why_stop
 use wire::refusal::Refusal;
 
 // The fields of a file transfer request or response.
-#[derive(Drop)]
+#[derive(Clone, Copy)]
 pub enum Field {
     Mode,
     Name,
@@ -17,7 +17,7 @@ pub enum Field {
 }
 
 // What is wrong: one for each check.
-#[derive(Drop)]
+#[derive(Clone, Copy)]
 pub enum Fault {
     // The mode is missing: the message is empty.
     NoMode,
@@ -68,14 +68,14 @@ impl Fault {
 }
 
 // The offset counts bytes from the start of the message to where the field begins.
-#[derive(Drop)]
+#[derive(Clone, Copy)]
 pub struct Reason {
     pub refusal: Refusal,
     pub offset: usize,
     pub fault: Fault,
 }
 
-#[derive(Drop)]
+#[derive(Clone, Copy)]
 pub enum ReasonAnswer {
     Accepted,
     Refused(Reason),

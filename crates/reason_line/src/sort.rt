@@ -10,13 +10,13 @@ use reason::reason::ReasonAnswer;
 use reason::request::why_request;
 use reason::response::why_response;
 
-#[derive(Drop)]
+#[derive(Clone, Copy)]
 pub enum Sort {
     Request,
     Response,
 }
 
-#[derive(Drop)]
+#[derive(Clone, Copy)]
 pub enum SortAnswer {
     Named(Sort),
     Unknown,

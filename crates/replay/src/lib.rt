@@ -7,21 +7,21 @@ ghost use Rattle.replay.specs.Run.{open_at, Running};
 use wire::refusal::Refusal;
 
 // The counter of a transfer's last accepted block, or none before its first.
-#[derive(Drop)]
+#[derive(Clone, Copy)]
 pub enum Last {
     Nothing,
     Counter(u8),
 }
 
 // A transfer that is closed has no last counter.
-#[derive(Drop)]
+#[derive(Clone, Copy)]
 pub enum Transfer {
     Closed,
     Open(Last),
 }
 
 // How many repeats were counted, and how many bytes the new blocks have together, both over the whole log.
-#[derive(Drop)]
+#[derive(Clone, Copy)]
 pub struct State {
     pub transfer: Transfer,
     pub repeats: u64,
@@ -29,21 +29,21 @@ pub struct State {
 }
 
 // A record of 4 bytes: the payload length stands in the last two.
-#[derive(Drop)]
+#[derive(Clone, Copy)]
 pub struct LogRecord {
     pub service: u8,
     pub kind_or_counter: u8,
     pub payload: u16,
 }
 
-#[derive(Drop)]
+#[derive(Clone, Copy)]
 pub enum StepAnswer {
     Accepted(State),
     Refused(Refusal),
 }
 
 // The state at the log's end; or the refusal, and the state before the record that was refused.
-#[derive(Drop)]
+#[derive(Clone, Copy)]
 pub enum ReplayAnswer {
     Accepted(State),
     Refused(Refusal, State),
@@ -197,7 +197,7 @@ fn record_at(log: &[u8], at: usize) -> LogRecord
 }
 
 // How far a run has come: the state, and the place of the next record.
-#[derive(Drop)]
+#[derive(Clone, Copy)]
 struct Reached {
     state: State,
     place: usize,

@@ -6,7 +6,7 @@ ghost use Rattle.request_file_transfer.specs.Layout.{layout_of};
 
 use file_operation::mode::FileOperationMode;
 
-#[derive(Drop)]
+#[derive(Clone, Copy)]
 pub enum AfterName {
     FormatAndSizes,
     Nothing,

@@ -27,7 +27,7 @@ pub fn name_place(message: &[u8]) -> PartAnswer
 }
 
 // A file's path and name, held where it stands: no byte of it is copied.
-#[derive(Drop)]
+#[derive(Clone, Copy)]
 pub struct NamePayload<'a> {
     file_path_and_name: &'a [u8],
 }

@@ -18,7 +18,7 @@ use wire::refusal::Refusal;
 use wire::size::Size;
 
 // A request; its name is a place of the message. What the kind lacks is 0. The single bytes come last, as in a response.
-#[derive(Drop)]
+#[derive(Clone, Copy)]
 pub struct RequestFileTransferRequest {
     pub file_path_and_name: Place,
     pub size: SizePayload,
@@ -36,7 +36,7 @@ impl RequestFileTransferRequest {
 }
 
 // The request and where the tail begins, or the refusal.
-#[derive(Drop)]
+#[derive(Clone, Copy)]
 pub enum RequestAnswer {
     Accepted(RequestFileTransferRequest, usize),
     Refused(Refusal),
@@ -55,13 +55,13 @@ impl RequestAnswer {
 }
 
 // What stands after the name.
-#[derive(Drop)]
+#[derive(Clone, Copy)]
 struct Rest {
     format: DataFormatIdentifier,
     size: SizePayload,
 }
 
-#[derive(Drop)]
+#[derive(Clone, Copy)]
 enum RestAnswer {
     Accepted(Rest, usize),
     Refused(Refusal),

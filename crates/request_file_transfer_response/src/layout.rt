@@ -6,7 +6,7 @@ ghost use Rattle.request_file_transfer_response.specs.Layout.{layout_of};
 
 use file_operation::mode::FileOperationMode;
 
-#[derive(Drop)]
+#[derive(Clone, Copy)]
 pub enum AfterFormat {
     Nothing,
     TwoSizes,
@@ -14,7 +14,7 @@ pub enum AfterFormat {
     Position,
 }
 
-#[derive(Drop)]
+#[derive(Clone, Copy)]
 pub enum AfterMode {
     Ended,
     BlockAndFormat(AfterFormat),

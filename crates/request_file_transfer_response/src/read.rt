@@ -30,7 +30,7 @@ use wire::size::Size;
 // A response; its block length is a place of the message, whose bytes are handed on as sent. What the kind lacks is 0 or the empty place.
 // The one size of a ReadDir response stands as the uncompressed. The single bytes come last: so laid out, a response is handed on
 // without waiting for them (docs/SPEED.md).
-#[derive(Drop)]
+#[derive(Clone, Copy)]
 pub struct RequestFileTransferResponse {
     pub max_number_of_block_length: Place,
     pub file_size: FileSizePayload,
@@ -51,7 +51,7 @@ impl RequestFileTransferResponse {
 }
 
 // The response and where the tail begins, or the refusal.
-#[derive(Drop)]
+#[derive(Clone, Copy)]
 pub enum ResponseAnswer {
     Accepted(RequestFileTransferResponse, usize),
     Refused(Refusal),
@@ -69,13 +69,13 @@ impl ResponseAnswer {
 }
 
 // What stands after the format byte.
-#[derive(Drop)]
+#[derive(Clone, Copy)]
 struct More {
     position: PositionPayload,
     file_size: FileSizePayload,
 }
 
-#[derive(Drop)]
+#[derive(Clone, Copy)]
 enum MoreAnswer {
     Accepted(More, usize),
     Refused(Refusal),
@@ -177,14 +177,14 @@ fn more_at(layout: AfterFormat, s: &[u8], at: usize) -> MoreAnswer
 }
 
 // What stands after the mode.
-#[derive(Drop)]
+#[derive(Clone, Copy)]
 struct Body {
     block: Place,
     format: DataFormatIdentifier,
     more: More,
 }
 
-#[derive(Drop)]
+#[derive(Clone, Copy)]
 enum BodyAnswer {
     Accepted(Body, usize),
     Refused(Refusal),

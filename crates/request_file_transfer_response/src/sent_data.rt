@@ -40,7 +40,7 @@ pub fn good_block_length(block: &[u8]) -> WriteAnswer
 }
 
 // A block length, held where it stands: no byte of it is copied.
-#[derive(Drop)]
+#[derive(Clone, Copy)]
 pub struct SentDataPayload<'a> {
     max_number_of_block_length: &'a [u8],
 }

@@ -13,14 +13,14 @@ use wire::refusal::Refusal;
 use wire::write::WriteAnswer;
 
 // The format byte, or a dash where the kind has none.
-#[derive(Drop)]
+#[derive(Clone, Copy)]
 pub enum Shown {
     Dash,
     Byte(u8),
 }
 
 // The input is too long; or one request was read; or it was refused.
-#[derive(Drop)]
+#[derive(Clone, Copy)]
 pub enum Line {
     TooLong,
     Accepted {

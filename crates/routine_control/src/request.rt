@@ -12,7 +12,7 @@ use wire::refusal::Refusal;
 use wire::write::{WriteAnswer, put_byte, put_bytes, put_two};
 
 // A routine request; its record is a place of the message.
-#[derive(Drop)]
+#[derive(Clone, Copy)]
 pub struct RoutineControlRequest {
     pub suppress_positive_response: bool,
     pub sub_function: RoutineControlSubFunction,
@@ -21,7 +21,7 @@ pub struct RoutineControlRequest {
 }
 
 // The request, or the refusal. The tail is always empty.
-#[derive(Drop)]
+#[derive(Clone, Copy)]
 pub enum RoutineControlRequestAnswer {
     Accepted(RoutineControlRequest),
     Refused(Refusal),

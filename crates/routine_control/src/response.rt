@@ -10,7 +10,7 @@ use wire::refusal::Refusal;
 use wire::write::{WriteAnswer, put_byte, put_bytes, put_two};
 
 // A routine response; its record is a place of the message.
-#[derive(Drop)]
+#[derive(Clone, Copy)]
 pub struct RoutineControlResponse {
     pub sub_function: RoutineControlSubFunction,
     pub routine_id: u16,
@@ -18,7 +18,7 @@ pub struct RoutineControlResponse {
 }
 
 // The response, or the refusal. The tail is always empty.
-#[derive(Drop)]
+#[derive(Clone, Copy)]
 pub enum RoutineControlResponseAnswer {
     Accepted(RoutineControlResponse),
     Refused(Refusal),

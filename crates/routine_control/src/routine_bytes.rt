@@ -6,14 +6,14 @@ ghost use Rattle.routine_control.specs.ThreeBytes.{seen_bytes, RoutineBytesRight
 use wire::available::available_at;
 use wire::refusal::Refusal;
 
-#[derive(Drop)]
+#[derive(Clone, Copy)]
 pub(crate) struct RoutineBytes {
     pub(crate) control: u8,
     pub(crate) identifier: u16,
 }
 
 // The three bytes and where the record begins, or the refusal.
-#[derive(Drop)]
+#[derive(Clone, Copy)]
 pub(crate) enum RoutineBytesAnswer {
     Accepted(RoutineBytes, usize),
     Refused(Refusal),

@@ -5,14 +5,14 @@ ghost use Rattle.routine_control.specs.SubFunction.{sub_of, sub_said, sub_refusa
 
 use wire::refusal::Refusal;
 
-#[derive(Drop)]
+#[derive(Clone, Copy)]
 pub enum RoutineControlSubFunction {
     StartRoutine,
     StopRoutine,
     RequestRoutineResults,
 }
 
-#[derive(Drop)]
+#[derive(Clone, Copy)]
 pub enum SubFunctionAnswer {
     Accepted(RoutineControlSubFunction),
     Refused(Refusal),
@@ -56,13 +56,13 @@ impl RoutineControlSubFunction {
 }
 
 // The first byte of a request: bit 0x80 asks that the positive response be suppressed, the low seven bits are the sub-function.
-#[derive(Drop)]
+#[derive(Clone, Copy)]
 pub struct SuppressablePositiveResponse {
     pub suppress_positive_response: bool,
     pub value: RoutineControlSubFunction,
 }
 
-#[derive(Drop)]
+#[derive(Clone, Copy)]
 pub enum SuppressableAnswer {
     Accepted(SuppressablePositiveResponse),
     Refused(Refusal),

@@ -12,7 +12,7 @@ use wire::write::WriteAnswer;
 
 // A file transfer message that was read: `start` and `len` are the place of the name or of the block length.
 #[repr(C)]
-#[derive(Drop)]
+#[derive(Clone, Copy)]
 pub struct FileTransferRecord {
     pub number: u64,
     pub first: u64,
@@ -31,7 +31,7 @@ pub struct FileTransferRecord {
 
 // A routine message that was read: `start` and `len` are the place of its record.
 #[repr(C)]
-#[derive(Drop)]
+#[derive(Clone, Copy)]
 pub struct RoutineRecord {
     pub number: u64,
     pub first: u64,
@@ -45,7 +45,7 @@ pub struct RoutineRecord {
 
 // How many bytes were written.
 #[repr(C)]
-#[derive(Drop)]
+#[derive(Clone, Copy)]
 pub struct WrittenRecord {
     pub number: u64,
     pub first: u64,
@@ -55,7 +55,7 @@ pub struct WrittenRecord {
 
 // How many bytes a rewriting wrote, and where the message that it read ends: what follows there is its tail.
 #[repr(C)]
-#[derive(Drop)]
+#[derive(Clone, Copy)]
 pub struct RewrittenRecord {
     pub number: u64,
     pub first: u64,
@@ -65,7 +65,7 @@ pub struct RewrittenRecord {
 }
 
 #[repr(C)]
-#[derive(Drop)]
+#[derive(Clone, Copy)]
 pub struct DeskRecord {
     pub number: u64,
     pub first: u64,
@@ -73,7 +73,7 @@ pub struct DeskRecord {
 }
 
 #[repr(C)]
-#[derive(Drop)]
+#[derive(Clone, Copy)]
 pub struct TroubleCodeRecord {
     pub number: u64,
     pub first: u64,
@@ -85,7 +85,7 @@ pub struct TroubleCodeRecord {
 
 // The next trouble code of a list, where there is one (`found` is 0 or 1), and where the list goes on.
 #[repr(C)]
-#[derive(Drop)]
+#[derive(Clone, Copy)]
 pub struct NextTroubleCodeRecord {
     pub number: u64,
     pub first: u64,

@@ -8,7 +8,7 @@ ghost use Rattle.tally.specs.Judged.{judged};
 
 use wire::refusal::Refusal;
 
-#[derive(Drop)]
+#[derive(Clone, Copy)]
 pub enum Tallied {
     Counted,
     Refused(Refusal),

@@ -6,7 +6,7 @@ ghost use Rattle.tally.specs.Sheet.{cells_of, any_count, Shaped, SheetRight};
 use crate::{Tallied, judge_records, tally};
 
 // The cells of a table one after the other, month by month with ten numbers each, and whether the records were counted.
-#[derive(Drop)]
+#[derive(Clone, Copy)]
 pub struct Sheet {
     pub verdict: Tallied,
     pub cells: [u32; 120],

@@ -12,7 +12,7 @@ use crate::refusal::Refusal;
 use crate::size::Size;
 
 // A size and where the next field begins, or the refusal.
-#[derive(Drop)]
+#[derive(Clone, Copy)]
 pub enum SizeAnswer {
     Accepted(Size, usize),
     Refused(Refusal),
@@ -62,7 +62,7 @@ pub(crate) fn head(prefix: Prefix, s: &[u8], at: usize) -> usize
 }
 
 // The width of a group whose bytes are all there and which is good, or the refusal.
-#[derive(Drop)]
+#[derive(Clone, Copy)]
 enum WidthAnswer {
     Good(usize),
     Refused(Refusal),
@@ -118,14 +118,14 @@ pub fn one_size_at(prefix: Prefix, s: &[u8], at: usize) -> SizeAnswer
     SizeAnswer::Accepted(gather(s, first, width), first + width)
 }
 
-#[derive(Drop)]
+#[derive(Clone, Copy)]
 pub struct TwoSizes {
     pub uncompressed: Size,
     pub compressed: Size,
 }
 
 // Two sizes and where the next field begins, or the refusal.
-#[derive(Drop)]
+#[derive(Clone, Copy)]
 pub enum TwoSizesAnswer {
     Accepted(TwoSizes, usize),
     Refused(Refusal),

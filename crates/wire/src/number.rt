@@ -10,7 +10,7 @@ use crate::refusal::Refusal;
 use crate::size::Size;
 
 // The byte and where the next field begins, or the refusal.
-#[derive(Drop)]
+#[derive(Clone, Copy)]
 pub enum ByteAnswer {
     Accepted(u8, usize),
     Refused(Refusal),
@@ -89,7 +89,7 @@ pub(crate) fn pair(s: &[u8], at: usize) -> usize
     high * 256 + low
 }
 
-#[derive(Drop)]
+#[derive(Clone, Copy)]
 pub enum EightAnswer {
     Accepted(u64, usize),
     Refused(Refusal),

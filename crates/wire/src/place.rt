@@ -10,14 +10,14 @@ use crate::prefix::Prefix;
 use crate::refusal::Refusal;
 
 // A part of a message: where it begins and how many bytes it has.
-#[derive(Drop)]
+#[derive(Clone, Copy)]
 pub struct Place {
     pub start: usize,
     pub len: usize,
 }
 
 // A place and where the next field begins, or the refusal.
-#[derive(Drop)]
+#[derive(Clone, Copy)]
 pub enum PlaceAnswer {
     Accepted(Place, usize),
     Refused(Refusal),

@@ -3,13 +3,13 @@ ghost use Rattle.std.specs.Prelude.{◌≡◌, [], ◌∷◌, max};
 ghost use Rattle.paper.specs.Sizes.{Smallest, compare};
 ghost use Rattle.wire.specs.Size.{value, order_of};
 
-#[derive(Drop)]
+#[derive(Clone, Copy)]
 pub struct Size {
     pub high: u64,
     pub low: u64,
 }
 
-#[derive(Drop)]
+#[derive(Clone, Copy)]
 pub enum Order {
     Less,
     Equal,

@@ -12,7 +12,7 @@ use crate::refusal::Refusal;
 use crate::size::{Size, width_of, width_of_both};
 
 // How many bytes were written, or the refusal.
-#[derive(Drop)]
+#[derive(Clone, Copy)]
 pub enum WriteAnswer {
     Accepted(usize),
     Refused(Refusal),

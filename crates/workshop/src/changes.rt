@@ -15,7 +15,7 @@ use wire::write::WriteAnswer;
 
 // Which listing was refused, 0 where neither was; and how many bytes were written.
 #[repr(C)]
-#[derive(Drop)]
+#[derive(Clone, Copy)]
 pub struct ChangesRecord {
     pub number: u64,
     pub first: u64,

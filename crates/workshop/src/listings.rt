@@ -19,7 +19,7 @@ use wire::refusal::Refusal;
 
 // The head of a listing: its availability mask, and how many records it has.
 #[repr(C)]
-#[derive(Drop)]
+#[derive(Clone, Copy)]
 pub struct ListingRecord {
     pub number: u64,
     pub first: u64,
@@ -30,7 +30,7 @@ pub struct ListingRecord {
 
 // A record of a listing. `found` is 1, or 0 past the last record, and then the others are 0. `known` is 1 where severity and functional unit are known, else all three are 0.
 #[repr(C)]
-#[derive(Drop)]
+#[derive(Clone, Copy)]
 pub struct ListedRecord {
     pub number: u64,
     pub first: u64,
@@ -47,7 +47,7 @@ pub struct ListedRecord {
 
 // The index of a listing: for each high byte how many records have it, and the place of the first.
 #[repr(C)]
-#[derive(Drop)]
+#[derive(Clone, Copy)]
 pub struct IndexRecord {
     pub number: u64,
     pub first: u64,
@@ -58,7 +58,7 @@ pub struct IndexRecord {
 
 // The record that has a code, and its place; `known` as above.
 #[repr(C)]
-#[derive(Drop)]
+#[derive(Clone, Copy)]
 pub struct LookUpRecord {
     pub number: u64,
     pub first: u64,
@@ -74,7 +74,7 @@ pub struct LookUpRecord {
 }
 
 // The sub-function that a byte stands for.
-#[derive(Drop)]
+#[derive(Clone, Copy)]
 pub(crate) enum KnownSub {
     Known(SubFunction),
     Unknown,

@@ -17,7 +17,7 @@ use wire::refusal::Refusal;
 
 // The three bytes of a code that was read as text.
 #[repr(C)]
-#[derive(Drop)]
+#[derive(Clone, Copy)]
 pub struct CodeRecord {
     pub number: u64,
     pub first: u64,
