@@ -48,6 +48,7 @@ with_lowest_bit : (n : ℕ) {w : ℕ} → Least (bit_or n 1) w → Least n w
 with_lowest_bit n s = record { positive = s.positive; fits = omega (arith, s.fits, or_one n); least = λ v p h. s.least v p (even v p h) }
   where
     even : (v : ℕ) → 1 ≤ v → n < 256 ^ v → bit_or n 1 < 256 ^ v
+    even zero p h = elim p [ ]
     even (suc v) p h = omega (arith, or_one n, pow-suc 256 v)
 
 -- ---- the two halves of a size

@@ -13,5 +13,4 @@ pub mod Writes
 pub mod FieldBytes
 pub mod Unique
 pub mod UniqueWriting
-pub mod HeldSlice
 pub mod UniqueHeld

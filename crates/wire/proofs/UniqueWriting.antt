@@ -4,7 +4,7 @@ use Prim.Native.Nat.{ℕ}
 use mathlib.Core.Path.{◌≡◌, refl, sym, ap, ◌∙◌}
 use mathlib.Core.List.{List}
 use contract.Lifetimes.{Lfts}
-use denote.Ref.{Bor}
+use denote.MutBor.{MutBor}
 use denote.Triple.Clauses.{AtExit}
 use borrow.Fn.Kinds.{ParamKind, ResultKind, Dens, res_t, Out, ended_of}
 use Rattle.paper.specs.Answer.{Answer, accepted, refused}
@@ -41,7 +41,7 @@ wrote_once {r = r} {s} p q = (sym (answer_back_lem r) ∙ ap answer_back (p.answ
 
 -- what is shown of a writer's contract, as the check reads it: of two results that meet it at the same arguments, and their two exits,
 -- the results are equal, and so is what the buffer holds
-abbrev pub WritesOnce : (n : ℕ) (ps : List (ParamKind n)) (r : ResultKind n) → ((κs : Lfts n) → AtExit (ended_of n ps r) κs → Bor (List ℕ)) → Out n ps r → Type 0
+abbrev pub WritesOnce : (n : ℕ) (ps : List (ParamKind n)) (r : ResultKind n) → ((κs : Lfts n) → AtExit (ended_of n ps r) κs → MutBor (List ℕ)) → Out n ps r → Type 0
 WritesOnce n ps r buffer Post =
     (κs : Lfts n) (a : Dens κs ps) (x y : AtExit (ended_of n ps r) κs) (r₁ r₂ : (res_t r κs).Denot)
     → Post κs a r₁ x → Post κs a r₂ y → (r₁ ≡ r₂) × ((buffer κs x).now ≡ (buffer κs y).now)

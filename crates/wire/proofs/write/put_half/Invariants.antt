@@ -1,0 +1,18 @@
+-- `wire::write::put_half` meets its contract. The invariant: the bytes still to come, in front of what is written, are what is to be there at the end.
+use Prim.Native.Nat.{suc, ◌-◌, ◌^◌, ◌≤◌, ◌<◌}
+use mathlib.Core.Path.{◌≡◌}
+use mathlib.Core.List.{◌++◌}
+use native.Mathlib.Omega.{arith}
+use borrow.Author.Rules.{rules}
+use lib.ListN.{length, drop, length-set}
+use Rattle.paper.specs.Answer.{over}
+use Rattle.paper.specs.Bytes.{to_bytes}
+use Rattle.paper.proofs.Bytes.{length_to_bytes}
+use Rattle.wire.proofs.FieldBytes.{fits-less, low_store}
+use Rattle.wire.proofs.write.put_half.Given as goal
+
+abbrev pub invariant-loop-i : goal.invariant-loop-i
+invariant-loop-i l = (to_bytes l.i l.rest ++ drop l.i l.out ≡ to_bytes l.width l.initial.rest ++ drop l.width l.initial.out) × (l.rest < 256 ^ l.i) × (l.i ≤ l.width) × (length l.out ≡ length l.initial.out)
+
+abbrev pub decreases-loop-i : goal.decreases-loop-i
+decreases-loop-i l = l.i
