@@ -77,10 +77,10 @@ impl DtcRecord {
 
     // What the paper says of the two, each asked by its name. Nobody calls this: its promise is the table.
     fn constants()
-        ensures* do_value { do ⌜ (← (⟦DtcRecord::WIRE_SIZE⟧).entry) ≡ wire_size ⌝ }
-        ensures* do_value_2 { do ⌜ (← (⟦DtcRecord::CLEAR_ALL_DTCS.high_byte⟧).entry) ≡ all_codes.high ⌝ }
-        ensures* do_value_3 { do ⌜ (← (⟦DtcRecord::CLEAR_ALL_DTCS.middle_byte⟧).entry) ≡ all_codes.middle ⌝ }
-        ensures* do_value_4 { do ⌜ (← (⟦DtcRecord::CLEAR_ALL_DTCS.low_byte⟧).entry) ≡ all_codes.low ⌝ }
+        ensures value { DtcRecord.WIRE_SIZE ≡ wire_size }
+        ensures value_2 { DtcRecord.CLEAR_ALL_DTCS.high_byte ≡ all_codes.high }
+        ensures value_3 { DtcRecord.CLEAR_ALL_DTCS.middle_byte ≡ all_codes.middle }
+        ensures value_4 { DtcRecord.CLEAR_ALL_DTCS.low_byte ≡ all_codes.low }
     {}
 
     pub fn new(high_byte: u8, middle_byte: u8, low_byte: u8) -> DtcRecord
@@ -229,14 +229,14 @@ impl DtcStatusMask {
 
     // Each is the mask of the question that it is named after. Nobody calls this: its promise is the table.
     fn constants()
-        ensures* do_value { do ⌜ (← (⟦DtcStatusMask::TestFailed.bits⟧).entry) ≡ mask_of test_failed ⌝ }
-        ensures* do_value_2 { do ⌜ (← (⟦DtcStatusMask::TestFailedThisOperationCycle.bits⟧).entry) ≡ mask_of test_failed_this_operation_cycle ⌝ }
-        ensures* do_value_3 { do ⌜ (← (⟦DtcStatusMask::PendingDtc.bits⟧).entry) ≡ mask_of pending_dtc ⌝ }
-        ensures* do_value_4 { do ⌜ (← (⟦DtcStatusMask::ConfirmedDtc.bits⟧).entry) ≡ mask_of confirmed_dtc ⌝ }
-        ensures* do_value_5 { do ⌜ (← (⟦DtcStatusMask::TestNotCompletedSinceLastClear.bits⟧).entry) ≡ mask_of test_not_completed_since_last_clear ⌝ }
-        ensures* do_value_6 { do ⌜ (← (⟦DtcStatusMask::TestFailedSinceLastClear.bits⟧).entry) ≡ mask_of test_failed_since_last_clear ⌝ }
-        ensures* do_value_7 { do ⌜ (← (⟦DtcStatusMask::TestNotCompletedThisOperationCycle.bits⟧).entry) ≡ mask_of test_not_completed_this_operation_cycle ⌝ }
-        ensures* do_value_8 { do ⌜ (← (⟦DtcStatusMask::WarningIndicatorRequested.bits⟧).entry) ≡ mask_of warning_indicator_requested ⌝ }
+        ensures value { DtcStatusMask.TestFailed.bits ≡ mask_of test_failed }
+        ensures value_2 { DtcStatusMask.TestFailedThisOperationCycle.bits ≡ mask_of test_failed_this_operation_cycle }
+        ensures value_3 { DtcStatusMask.PendingDtc.bits ≡ mask_of pending_dtc }
+        ensures value_4 { DtcStatusMask.ConfirmedDtc.bits ≡ mask_of confirmed_dtc }
+        ensures value_5 { DtcStatusMask.TestNotCompletedSinceLastClear.bits ≡ mask_of test_not_completed_since_last_clear }
+        ensures value_6 { DtcStatusMask.TestFailedSinceLastClear.bits ≡ mask_of test_failed_since_last_clear }
+        ensures value_7 { DtcStatusMask.TestNotCompletedThisOperationCycle.bits ≡ mask_of test_not_completed_this_operation_cycle }
+        ensures value_8 { DtcStatusMask.WarningIndicatorRequested.bits ≡ mask_of warning_indicator_requested }
     {}
 
     // Every byte is a mask.
@@ -390,14 +390,14 @@ impl DtcSeverityMask {
 
     // Each is the mask of the question that it is named after. Nobody calls this: its promise is the table.
     fn constants()
-        ensures* do_value { do ⌜ (← (⟦DtcSeverityMask::DtcClass0.bits⟧).entry) ≡ mask_of (dtc_class 0) ⌝ }
-        ensures* do_value_2 { do ⌜ (← (⟦DtcSeverityMask::DtcClass1.bits⟧).entry) ≡ mask_of (dtc_class 1) ⌝ }
-        ensures* do_value_3 { do ⌜ (← (⟦DtcSeverityMask::DtcClass2.bits⟧).entry) ≡ mask_of (dtc_class 2) ⌝ }
-        ensures* do_value_4 { do ⌜ (← (⟦DtcSeverityMask::DtcClass3.bits⟧).entry) ≡ mask_of (dtc_class 3) ⌝ }
-        ensures* do_value_5 { do ⌜ (← (⟦DtcSeverityMask::DtcClass4.bits⟧).entry) ≡ mask_of (dtc_class 4) ⌝ }
-        ensures* do_value_6 { do ⌜ (← (⟦DtcSeverityMask::MaintenanceOnly.bits⟧).entry) ≡ mask_of maintenance_only ⌝ }
-        ensures* do_value_7 { do ⌜ (← (⟦DtcSeverityMask::CheckAtNextHalt.bits⟧).entry) ≡ mask_of check_at_next_halt ⌝ }
-        ensures* do_value_8 { do ⌜ (← (⟦DtcSeverityMask::CheckImmediately.bits⟧).entry) ≡ mask_of check_immediately ⌝ }
+        ensures value { DtcSeverityMask.DtcClass0.bits ≡ mask_of (dtc_class 0) }
+        ensures value_2 { DtcSeverityMask.DtcClass1.bits ≡ mask_of (dtc_class 1) }
+        ensures value_3 { DtcSeverityMask.DtcClass2.bits ≡ mask_of (dtc_class 2) }
+        ensures value_4 { DtcSeverityMask.DtcClass3.bits ≡ mask_of (dtc_class 3) }
+        ensures value_5 { DtcSeverityMask.DtcClass4.bits ≡ mask_of (dtc_class 4) }
+        ensures value_6 { DtcSeverityMask.MaintenanceOnly.bits ≡ mask_of maintenance_only }
+        ensures value_7 { DtcSeverityMask.CheckAtNextHalt.bits ≡ mask_of check_at_next_halt }
+        ensures value_8 { DtcSeverityMask.CheckImmediately.bits ≡ mask_of check_immediately }
     {}
 
     // Every byte is a mask.
