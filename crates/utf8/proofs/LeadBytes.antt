@@ -61,6 +61,7 @@ NoneOf (b ∷ bs) = Mistyped b
 
 none_of : (bs : List ℕ) → NoneOf bs → bs ≡ []
 none_of [] m = refl
+none_of (_ ∷ _) m = elim m [ ]
 
 -- row k of the table is right where none of its lead bytes has a mistyped entry
 pub at_row : (k : ℕ) {high row : ℕ} → high ≡ k → NoneOf (mistyped k row) → high < 16 → RowRight high row

@@ -1,0 +1,15 @@
+-- `in_range` meets its contract: the two tests, taken together.
+use mathlib.Core.Path.{◌≡◌, refl}
+use mathlib.Core.Bool.{Bool, true, false, ◌&&◌}
+use lib.Dec.{leb}
+use Rattle.paper.specs.Choice.{both}
+use Rattle.paper.specs.Utf8.{in_range}
+use Rattle.utf8.proofs.characters.in_range.Goals as goal
+
+and_both : (p q : Bool) → (p && q) ≡ both p q
+and_both true q = refl
+and_both false q = refl
+
+pub returns : goal.returns
+unfolding in_range
+returns c = let a = c.args in and_both (leb a.low a.b) (leb a.b a.high)
