@@ -1,13 +1,11 @@
 -- `tally::in_ranges` meets its contract: its four tests are the paper's, of which those against 0 always pass.
--- Assumes nothing.
 use mathlib.Core.Path.{◌≡◌, refl}
 use mathlib.Core.Bool.{Bool, true, false, ◌&&◌}
 use lib.Dec.{leb, leb-zero}
 use Rattle.paper.specs.Choice.{both}
 use Rattle.paper.specs.Utf8.{in_range}
 use Rattle.paper.specs.Tally.{in_ranges}
-use Rattle.tally.proofs.in_ranges.Statement.{statement}
-use Rattle.tally.proofs.in_ranges.Tie as tie
+use Rattle.tally.proofs.in_ranges.Goals as goal
 
 four : (a b d n : Bool) → (a && b) && d && n ≡ both (both a b) (both d n)
 four true true true n = refl
@@ -15,9 +13,6 @@ four true true false n = refl
 four true false d n = refl
 four false b d n = refl
 
-returns : tie.Need-returns
+pub returns : goal.returns
 unfolding in_ranges in_range
 returns c = let a = c.args in rw (leb-zero, leb-zero) (four (leb 1 a.month) (leb a.month 12) (leb a.direction 1) (leb a.number 9))
-
-pub in-ranges-spec : {M : Type 1} → statement M
-in-ranges-spec = tie.close (tie.spec returns)
