@@ -1,6 +1,6 @@
 -- What the paper says of an index, of a lookup and of a comparison holds of every call that kept its contract.
 -- Assumes nothing.
-use mathlib.Core.Path.{◌≡◌, sym, ap, ◌∙◌}
+use mathlib.Core.Path.{◌≡◌, ap, ◌∙◌}
 use contract.Lifetimes.{Lfts}
 use denote.Triple.Clauses.{AtExit}
 use borrow.Fn.Kinds.{Dens, ended_of}
@@ -42,7 +42,7 @@ module _ (κs : Lfts 1) (a : Dens κs index-listing-kinds.ps) (x : AtExit (ended
   -- and a lookup by it, in the same message, answers the first record that has the code, or 16: never 11
   pub index_finds : (κs₂ : Lfts 3) (b : Dens κs₂ look-up-kinds.ps) (y : AtExit (ended_of 3 look-up-kinds.ps look-up-kinds.r) κs₂) (q : LookUpAnswer) → look_up.Post κs₂ b q y
       → b.0 ≡ a.0 → b.1.0.now ≡ a.1.0.now → b.1.1.0.now ≡ r.counts → b.1.1.1.0.now ≡ r.firsts → look_said q ≡ find 0 (code_of b.1.1.1.1.0) l.records
-  index_finds κs₂ b y q looked sub same counts firsts = looked ∙ rw (sub, same, counts, firsts) (look_own (sub_of a.0) a.1.0.now (numbers_in r.counts r.firsts) (code_of b.1.1.1.1.0) read (rw made (own_accepted l.records)))
+  index_finds κs₂ b y q looked sub same counts firsts = looked ∙ rw (sub, same, counts, firsts) (look_own (sub_of a.0) a.1.0.now (numbers_in r.counts r.firsts) (code_of b.1.1.1.1.0) read (ap (paper.own_index l.records) made ∙ own_accepted l.records))
 
 -- two listings were compared that are read, and in which no code stands twice: what is written is the list that the places say
 module _ (κs : Lfts 3) (a : Dens κs listing-changes-kinds.ps) (x : AtExit (ended_of 3 listing-changes-kinds.ps listing-changes-kinds.r) κs) (r : ChangesAnswer) (kept : listing-changes.Post κs a r x)

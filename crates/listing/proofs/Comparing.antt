@@ -1,7 +1,7 @@
 -- What the comparison of two listings cites: when two records are the same, what is listed of one, and a turn of each of its loops.
 -- Assumes nothing.
 use mathlib.Core.Path.{◌≡◌, refl, sym, ap, ◌∙◌}
-use Prim.Native.Nat.{ℕ, suc, ◌+◌, ◌*◌, ◌≤◌, ◌<◌}
+use Prim.Native.Nat.{ℕ, ◌+◌, ◌*◌, ◌≤◌, ◌<◌}
 use mathlib.Core.Bool.{Bool, true, false, not, ◌||◌, beq}
 use mathlib.Core.List.{List, [], ◌∷◌, ◌++◌}
 use mathlib.Core.Option.{some}
@@ -16,10 +16,10 @@ use Rattle.paper.specs.Answer.{Refusal, repeated, Answer, accepted, refused}
 use Rattle.paper.specs.TroubleCode.{TroubleCode, trouble_code_bytes}
 use Rattle.paper.specs.Tally.{count}
 use Rattle.paper.specs.Listing.{SubFunction, Listed, Listing, listing, read_listing, head_of, has_code, Found, find}
-use Rattle.paper.specs.Changes.{Entry, gone, differs, added, entries_bytes, same_record, of_first, of_second, entries_of, changes, first_repeated, read_for_changes, compared}
+use Rattle.paper.specs.Changes.{entries_bytes, same_record, of_first, of_second, entries_of, changes, first_repeated, read_for_changes, compared}
 use Rattle.paper.proofs.Listing.{length_records, record_there}
 use Rattle.paper.proofs.Choice.{never}
-use Rattle.paper.proofs.Repeats.{repeated_le, stood_found, stood_none, Repeating, repeating_starts, repeating_ends, repeating_found, repeating_on}
+use Rattle.paper.proofs.Repeats.{repeated_le, stood_found, stood_none, Repeating, repeating_ends, repeating_found, repeating_on}
 use Rattle.paper.proofs.Changes.{length_entries, entries_append, of_more, of_fewer, of_few, one-of-first, one-of-second, read-repeated, read_once, accepted_once, first-refused, second-refused, both-good}
 use Rattle.wire.specs.Refusals.{row}
 use Rattle.wire.specs.Writing.{Wrote, Filled}

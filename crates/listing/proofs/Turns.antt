@@ -13,9 +13,9 @@ use lib.Seq.{drop-cons}
 use lib.Dec.{eqb}
 use borrow.Author.Tests.{eq-eqb, ne_eqb}
 use Rattle.paper.specs.Choice.{pick, both}
-use Rattle.paper.specs.Answer.{accepted, refused, no_such_code}
+use Rattle.paper.specs.Answer.{accepted}
 use Rattle.paper.specs.TroubleCode.{TroubleCode}
-use Rattle.paper.specs.Listing.{SubFunction, Listed, record_size, record_of, one_by_one, records_in, how_many, first_with, numbers_from, Index, index_of, same_numbers, own_index, has_high, has_code, find}
+use Rattle.paper.specs.Listing.{SubFunction, Listed, record_size, one_by_one, records_in, how_many, first_with, numbers_from, Index, index_of, same_numbers, own_index, has_high, has_code, find}
 use Rattle.paper.proofs.Listing.{length_records, record_there, records-more}
 use Rattle.paper.proofs.ListingIndex.{no_counts, no_firsts, counted-more, new_first, old_first, count_small, count_at, first_at, own_only, Searching, search_starts, search_within, search_found, search_less, search_on}
 use Rattle.dtc.specs.Status.{same_code}

@@ -12,7 +12,7 @@ use Rattle.wire.proofs.Refusals.{refusal_back, refusal-back}
 use Rattle.wire.proofs.Unique.{Determined}
 use Rattle.wire.proofs.UniqueWriting.{answer_back, answer_back_lem, WritesOnce, wrote_once}
 use Rattle.wire.specs.declared.write.WriteAnswer.{WriteAnswer}
-use Rattle.listing.specs.Listing.{sub_of, head_said, record_said, listed_of}
+use Rattle.listing.specs.Listing.{sub_of, head_said, record_said}
 use Rattle.listing.specs.Index.{IndexedRight, look_said}
 use Rattle.listing.specs.Changes.{ComparedRight}
 use Rattle.listing.specs.declared.SubFunction.{SubFunction}

@@ -1,7 +1,7 @@
 -- A turn of each loop over records that are handed over: one more that fits, and one more that is written behind the others.
 -- Assumes nothing.
 use mathlib.Core.Path.{◌≡◌, refl, sym, ap, ◌∙◌}
-use Prim.Native.Nat.{ℕ, suc, ◌+◌, ◌*◌, ◌-◌, ◌/◌, ◌%◌, ◌≤◌, ◌<◌}
+use Prim.Native.Nat.{ℕ, ◌+◌, ◌*◌, ◌/◌, ◌%◌, ◌≤◌, ◌<◌}
 use mathlib.Core.Bool.{true, false}
 use mathlib.Core.List.{List, [], ◌∷◌, ◌++◌}
 use native.Mathlib.Nat.{mul-le-mul_left}
@@ -10,11 +10,11 @@ use native.Mathlib.Omega.{arith}
 use lib.ListN.{length, get_or, drop}
 use lib.Seq.{get_or-drop}
 use borrow.Author.Tests.{eq-eqb, ne_eqb}
-use Rattle.paper.specs.Answer.{Answer, accepted, refused, out_of_range, too_many, cut}
+use Rattle.paper.specs.Answer.{accepted, refused, out_of_range}
 use Rattle.paper.specs.TroubleCode.{trouble_code}
-use Rattle.paper.specs.Listing.{SubFunction, Listed, unknown_severity, known_severity, record_size, record_bytes, listing, listing_bytes, answer_byte, sub_function_byte, records_bytes, one_by_one, first_place, unfit, first_unfit, handed_of, handed_in, write_listing, write_handed}
+use Rattle.paper.specs.Listing.{SubFunction, Listed, unknown_severity, known_severity, record_size, record_bytes, listing, listing_bytes, answer_byte, sub_function_byte, records_bytes, one_by_one, first_place, unfit, handed_of, handed_in, write_handed}
 use Rattle.paper.proofs.FirstPlace.{PassedOver, passes, passes_not}
-use Rattle.paper.proofs.Listing.{length_record, length_bytes, bytes-more, length_handed, handed_there, handed_more, handed_whole, unfit-refused, fit_written}
+use Rattle.paper.proofs.Listing.{length_bytes, bytes-more, length_handed, handed_there, handed_more, handed_whole, unfit-refused, fit_written}
 use Rattle.wire.specs.Writing.{Filled}
 use Rattle.wire.proofs.Over.{rest, back, over_length, filled_none, filled_more, filled_as}
 

@@ -1,5 +1,7 @@
 // Trouble-code listings, the answer to ISO 14229-1 ReadDTCInformation: read, written, and with an index beside them. Document 02 asks for them; the original has none.
 // A listing stays in its message: the answer byte, the sub-function and the availability mask, then the records, one after the other. The sub-function says in which of two forms they are.
+#![tactic(auto)]
+
 pub mod changes;
 pub mod index;
 pub mod write;
