@@ -1,5 +1,7 @@
 // Text in lent room: decimal numbers, words with a number, and the line of a refusal, in ASCII. Each function puts its text at the start of `out` and
 // answers how many bytes the text has. Where they do not fit nothing changes: who lends less room than the text can have compares the answer with it.
+#![tactic(auto)]
+
 ghost use Rattle.std.specs.Prelude.{◌+◌, ◌≤◌, length};
 ghost use Rattle.paper.specs.ReadingProgram.{decimal, text_of, bad};
 ghost use Rattle.wire.specs.Refusals.{row};
