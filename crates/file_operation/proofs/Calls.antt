@@ -5,7 +5,7 @@ use mathlib.Core.Path.{◌≡◌, refl}
 use mathlib.Core.List.{List, []}
 use mathlib.Core.Logic.{◌↔◌}
 use contract.Lifetimes.{Lfts}
-use denote.Ref.{Bor}
+use denote.Ref.{Bor, MutBor}
 use Rattle.wire.specs.Reading.{Seen}
 use Rattle.file_operation.specs.Calls.{OneSlice, TwoSlices, ReadCall, RewriteCall}
 use Rattle.file_operation.specs.declared.rewrite.RewriteAnswer.{RewriteAnswer}
@@ -13,6 +13,10 @@ use Rattle.file_operation.specs.declared.rewrite.RewriteAnswer.{RewriteAnswer}
 -- a slice, wherever it is, that holds these bytes
 abbrev pub slice : List ℕ → Bor (List ℕ)
 slice s = record { ref_ptr = (0, 0); now = s }
+
+-- a buffer, wherever it is, that holds these bytes
+abbrev pub buffer : List ℕ → MutBor (List ℕ)
+buffer s = record { ref_ptr = (0, 0); ghost_name = 0; now = s }
 
 -- there is a reading call with some answer exactly if the contract has that answer of the message, whatever else the call was given
 pub read_calls : {R Q : Type 0} {Post : Lfts 1 → OneSlice → R → OneSlice → Type 0} {seen : R → Seen Q} (Promise : List ℕ → Seen Q → Type 0)
@@ -29,5 +33,5 @@ pub rewrite_calls : {Post : Lfts 2 → TwoSlices → RewriteAnswer → TwoSlices
     → (s room after : List ℕ) (r : RewriteAnswer) → RewriteCall Post s room r after ↔ Promise s room r after
 rewrite_calls Promise post s room after r = (
   (λ c. rw (← c.lent, ← c.before, ← c.left) ((post _ _ _ _).0 c.met)),
-  (λ h. record { lifetimes = ([], ([], tt)); args = (slice s, (slice room, tt)); exit = (slice s, (slice after, tt)); lent = refl; before = refl; left = refl; met = (post _ _ _ _).1 h }),
+  (λ h. record { lifetimes = ([], ([], tt)); args = (slice s, (buffer room, tt)); exit = (slice s, (buffer after, tt)); lent = refl; before = refl; left = refl; met = (post _ _ _ _).1 h }),
 )

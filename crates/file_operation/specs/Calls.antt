@@ -5,7 +5,7 @@
 -- A call is its lifetimes, arguments, exit and result, and that they meet the contract: that every run of the function is such a call, its own proof says.
 use Rattle.std.specs.Prelude.{◌≡◌, ℕ, ◌≤◌, ◌<◌, List, ◌↔◌, length, take}
 use contract.Lifetimes.{Lfts}
-use Rattle.std.specs.Borrow.{Bor}
+use Rattle.std.specs.Borrow.{Bor, MutBor}
 use Rattle.paper.specs.Bytes.{Bytes}
 use Rattle.wire.specs.Reading.{Seen, found}
 use Rattle.file_operation.specs.declared.rewrite.RewriteAnswer.{RewriteAnswer}
@@ -15,7 +15,7 @@ abbrev pub OneSlice : Type 0
 OneSlice = Bor (List ℕ) × Unit {0}
 
 abbrev pub TwoSlices : Type 0
-TwoSlices = Bor (List ℕ) × OneSlice
+TwoSlices = Bor (List ℕ) × (MutBor (List ℕ) × Unit {0})
 
 -- a call of the reader with this contract, as the check reads it: it was lent the message s and answered x
 pub record ReadCall {R Q : Type 0} (Post : Lfts 1 → OneSlice → R → OneSlice → Type 0) (seen : R → Seen Q) (s : List ℕ) (x : Seen Q) : Type 0 where

@@ -4,7 +4,6 @@ pub mod DemandThree
 pub mod DemandThreeExample
 pub mod Joined
 pub mod LongestResponse
-pub mod SentHeld
 pub mod Unique
 pub mod Short
 pub mod Vectors

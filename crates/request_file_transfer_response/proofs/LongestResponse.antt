@@ -12,7 +12,7 @@ use Rattle.paper.proofs.Response.{write_read, written-longest, response_longest_
 use Rattle.wire.specs.Writing.{Wrote}
 use Rattle.wire.specs.declared.write.WriteAnswer.{WriteAnswer}
 use Rattle.file_operation.specs.declared.rewrite.RewriteAnswer.{RewriteAnswer}
-use Rattle.file_operation.proofs.Calls.{slice}
+use Rattle.file_operation.proofs.Calls.{slice, buffer}
 use Rattle.file_operation.proofs.Longest.{wrote_at_most, rewrote_at_most, wrote_all}
 use Rattle.file_operation.proofs.Unique.{kind_back, kind-again, format_of, file_sizes_back, size-again}
 use Rattle.request_file_transfer_response.specs.Writing.{response_of}
@@ -47,8 +47,8 @@ write_call m {room} {after} h =
     let same : response_of kind m.block m.format size m.position ≡ m = rw (kind-again m.kind, size-again m.uncompressed, size-again m.compressed) in
     record {
       lifetimes = ([], ([], tt));
-      args = (kind, (slice m.block, (format, (size, (position, (slice room, tt))))));
-      exit = (kind, (slice m.block, (format, (size, (position, (slice after, tt))))));
+      args = (kind, (slice m.block, (format, (size, (position, (buffer room, tt))))));
+      exit = (kind, (slice m.block, (format, (size, (position, (buffer after, tt))))));
       handed = same;
       before = refl;
       left = refl;

@@ -25,7 +25,7 @@ kept-is-short : (b : List ℕ) (x : Answer (List ℕ)) → good_block_length b �
 kept-is-short b (accepted x) e = let (same, short) = (good-block-length b x).0 e in rw same short
 kept-is-short b (refused r) e = omega arith
 
-pub new_short : Says new.ended (λ M 𝓤. new.clauses 𝓤) (λ κs a r. length r.max_number_of_block_length.now ≤ 255)
+pub new_short : Says new.ended (λ M 𝓤 𝓛. new.clauses 𝓛) (λ κs a r. length r.max_number_of_block_length.now ≤ 255)
 new_short M 𝓤 𝓛 mem run κs a g x r = says 𝓤 (λ is. rw is.1 (kept-is-short a.0.now (good_block_length a.0.now) refl))
 
 -- ---- of a response, whose elements are bytes, as those of every slice of `u8` are
@@ -49,10 +49,10 @@ part-is-short : (s : List ℕ) (x : Answer (Read Response)) → Bytes s → read
 part-is-short s (accepted (m leaving t)) bytes e = rw (part-is-block s bytes e) (response-block-length s bytes e)
 part-is-short s (refused r) bytes e = omega arith
 
-pub of_response_short : Says of-response.ended (λ M 𝓤. of-response.clauses 𝓤) (λ κs a r. Bytes a.0.now → length r.max_number_of_block_length.now ≤ 255)
+pub of_response_short : Says of-response.ended (λ M 𝓤 𝓛. of-response.clauses 𝓛) (λ κs a r. Bytes a.0.now → length r.max_number_of_block_length.now ≤ 255)
 of_response_short M 𝓤 𝓛 mem run κs a g x r = says 𝓤 (λ is bytes. rw is.1 (part-is-short a.0.now (read_response a.0.now) bytes refl))
 
 -- of one that is accepted
-pub of_response_holds : Says of-response.ended (λ M 𝓤. of-response.clauses 𝓤)
+pub of_response_holds : Says of-response.ended (λ M 𝓤 𝓛. of-response.clauses 𝓛)
     (λ κs a r. (m : Response) (t : List ℕ) → Bytes a.0.now → read_response a.0.now ≡ accepted (m leaving t) → r.max_number_of_block_length.now ≡ m.block)
 of_response_holds M 𝓤 𝓛 mem run κs a g x r = says 𝓤 (λ is m t bytes e. is.1 ∙ ap (at a.0.now) e ∙ part-is-block a.0.now bytes e)

@@ -136,18 +136,18 @@ pub good_block_length_determined : Determined 1 good-block-length-kinds.ps good-
 good_block_length_determined κs a x y r₁ r₂ p q = sym (answer_back_lem r₁) ∙ ap answer_back (p ∙ sym q) ∙ answer_back_lem r₂
 
 -- of two records of a response's block length, and of a slice, what they hold
-pub of_response_determined : Settled of-response.ended (λ M 𝓤. of-response.clauses 𝓤) (λ κs r₁ r₂. Alike r₁.max_number_of_block_length r₂.max_number_of_block_length)
+pub of_response_determined : Settled of-response.ended (λ M 𝓤 𝓛. of-response.clauses 𝓛) (λ κs r₁ r₂. Alike r₁.max_number_of_block_length r₂.max_number_of_block_length)
 of_response_determined M 𝓤 𝓛 mem run κs a g x y r₁ r₂ = settled 𝓤 (alike r₁.max_number_of_block_length r₂.max_number_of_block_length)
 
-pub new_determined : Settled new.ended (λ M 𝓤. new.clauses 𝓤) (λ κs r₁ r₂. Alike r₁.max_number_of_block_length r₂.max_number_of_block_length)
+pub new_determined : Settled new.ended (λ M 𝓤 𝓛. new.clauses 𝓛) (λ κs r₁ r₂. Alike r₁.max_number_of_block_length r₂.max_number_of_block_length)
 new_determined M 𝓤 𝓛 mem run κs a g x y r₁ r₂ = settled 𝓤 (alike r₁.max_number_of_block_length r₂.max_number_of_block_length)
 
 -- the slice of a record
-pub max_number_of_block_length_determined : Settled max-number-of-block-length.ended (λ M 𝓤. max-number-of-block-length.clauses 𝓤) (λ κs r₁ r₂. r₁ ≡ r₂)
+pub max_number_of_block_length_determined : Settled max-number-of-block-length.ended (λ M 𝓤 𝓛. max-number-of-block-length.clauses 𝓛) (λ κs r₁ r₂. r₁ ≡ r₂)
 max_number_of_block_length_determined M 𝓤 𝓛 mem run κs a g x y r₁ r₂ = settled 𝓤 (λ p q. p ∙ sym q)
 
 -- the slice of a record that is lent
-pub held_determined : Settled held.ended (λ M 𝓤. held.clauses 𝓤) (λ κs r₁ r₂. r₁ ≡ r₂)
+pub held_determined : Settled held.ended (λ M 𝓤 𝓛. held.clauses 𝓛) (λ κs r₁ r₂. r₁ ≡ r₂)
 held_determined M 𝓤 𝓛 mem run κs a g x y r₁ r₂ = settled 𝓤 (λ p q. p ∙ sym q)
 
 -- ---- writing

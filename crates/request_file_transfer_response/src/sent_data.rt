@@ -1,6 +1,5 @@
 // The block length record: that very part of the caller's buffer, found to be a block length, and nothing else.
 // An enum cannot hold it, so beside each of its two makers stands the call that says whether there is one: `block_length_place` beside `of_response`, `good_block_length` beside `new`.
-// Its functions are walked by hand, as those of the name record are (wire/proofs/HeldSlice.antt).
 ghost use Rattle.std.specs.Prelude.{◌≡◌};
 ghost use Rattle.paper.specs.Response.{good_block_length};
 ghost use Rattle.wire.specs.Place.{IsPart};
