@@ -6,6 +6,5 @@ pub mod DemandThree
 pub mod DemandThreeExample
 pub mod Joined
 pub mod LongestRequest
-pub mod NameHeld
 pub mod Named
 pub mod Vectors

@@ -12,7 +12,7 @@ use Rattle.paper.proofs.Request.{write_read, written-longest, request_longest_re
 use Rattle.wire.specs.Writing.{Wrote}
 use Rattle.wire.specs.declared.write.WriteAnswer.{WriteAnswer}
 use Rattle.file_operation.specs.declared.rewrite.RewriteAnswer.{RewriteAnswer}
-use Rattle.file_operation.proofs.Calls.{slice}
+use Rattle.file_operation.proofs.Calls.{slice, buffer}
 use Rattle.file_operation.proofs.Longest.{wrote_at_most, rewrote_at_most, wrote_all}
 use Rattle.file_operation.proofs.Unique.{kind_back, kind-again, format_of, sizes_back, size-again}
 use Rattle.request_file_transfer.specs.Writing.{request_of}
@@ -46,8 +46,8 @@ write_call m {room} {after} h =
     let same : request_of kind m.name m.format size ≡ m = rw (kind-again m.kind, size-again m.uncompressed, size-again m.compressed) in
     record {
       lifetimes = ([], ([], tt));
-      args = (kind, (slice m.name, (format, (size, (slice room, tt)))));
-      exit = (kind, (slice m.name, (format, (size, (slice after, tt)))));
+      args = (kind, (slice m.name, (format, (size, (buffer room, tt)))));
+      exit = (kind, (slice m.name, (format, (size, (buffer after, tt)))));
       handed = same;
       before = refl;
       left = refl;

@@ -26,7 +26,7 @@ kept-is-name : (n : List ℕ) (x : Answer (List ℕ)) → good_name n ≡ x → 
 kept-is-name n (accepted x) e = let (same, is) = (good-name n x).0 e in rw same is
 kept-is-name n (refused r) e = empty_name
 
-pub new_named : Says new.ended (λ M 𝓤. new.clauses 𝓤) (λ κs a r. IsName r.file_path_and_name.now)
+pub new_named : Says new.ended (λ M 𝓤 𝓛. new.clauses 𝓛) (λ κs a r. IsName r.file_path_and_name.now)
 new_named M 𝓤 𝓛 mem run κs a g x r = says 𝓤 (λ is. rw is.1 (kept-is-name a.0.now (good_name a.0.now) refl))
 
 -- ---- of a request, whose elements are bytes, as those of every slice of `u8` are
@@ -38,10 +38,10 @@ part-is-name : (s : List ℕ) (x : Answer (Read Request)) → Bytes s → read_r
 part-is-name s (accepted (m leaving t)) bytes e = let (is, there) = request-name s bytes e in rw there is
 part-is-name s (refused r) bytes e = empty_name
 
-pub of_request_named : Says of-request.ended (λ M 𝓤. of-request.clauses 𝓤) (λ κs a r. Bytes a.0.now → IsName r.file_path_and_name.now)
+pub of_request_named : Says of-request.ended (λ M 𝓤 𝓛. of-request.clauses 𝓛) (λ κs a r. Bytes a.0.now → IsName r.file_path_and_name.now)
 of_request_named M 𝓤 𝓛 mem run κs a g x r = says 𝓤 (λ is bytes. rw is.1 (part-is-name a.0.now (read_request a.0.now) bytes refl))
 
 -- of one that is accepted
-pub of_request_holds : Says of-request.ended (λ M 𝓤. of-request.clauses 𝓤)
+pub of_request_holds : Says of-request.ended (λ M 𝓤 𝓛. of-request.clauses 𝓛)
     (λ κs a r. (m : Request) (t : List ℕ) → Bytes a.0.now → read_request a.0.now ≡ accepted (m leaving t) → r.file_path_and_name.now ≡ m.name)
 of_request_holds M 𝓤 𝓛 mem run κs a g x r = says 𝓤 (λ is m t bytes e. is.1 ∙ ap (at a.0.now) e ∙ (request-name a.0.now bytes e).1)

@@ -95,18 +95,18 @@ pub request_name_determined : (κs : Lfts 1) (a : Dens κs request-name-kinds.ps
 request_name_determined κs a x y r₁ r₂ p q = alike r₁ r₂ p q
 
 -- of two records of a request's name, and of a slice, what they hold
-pub of_request_determined : Settled of-request.ended (λ M 𝓤. of-request.clauses 𝓤) (λ κs r₁ r₂. Alike r₁.file_path_and_name r₂.file_path_and_name)
+pub of_request_determined : Settled of-request.ended (λ M 𝓤 𝓛. of-request.clauses 𝓛) (λ κs r₁ r₂. Alike r₁.file_path_and_name r₂.file_path_and_name)
 of_request_determined M 𝓤 𝓛 mem run κs a g x y r₁ r₂ = settled 𝓤 (alike r₁.file_path_and_name r₂.file_path_and_name)
 
-pub new_determined : Settled new.ended (λ M 𝓤. new.clauses 𝓤) (λ κs r₁ r₂. Alike r₁.file_path_and_name r₂.file_path_and_name)
+pub new_determined : Settled new.ended (λ M 𝓤 𝓛. new.clauses 𝓛) (λ κs r₁ r₂. Alike r₁.file_path_and_name r₂.file_path_and_name)
 new_determined M 𝓤 𝓛 mem run κs a g x y r₁ r₂ = settled 𝓤 (alike r₁.file_path_and_name r₂.file_path_and_name)
 
 -- the slice of a record
-pub file_path_and_name_determined : Settled file-path-and-name.ended (λ M 𝓤. file-path-and-name.clauses 𝓤) (λ κs r₁ r₂. r₁ ≡ r₂)
+pub file_path_and_name_determined : Settled file-path-and-name.ended (λ M 𝓤 𝓛. file-path-and-name.clauses 𝓛) (λ κs r₁ r₂. r₁ ≡ r₂)
 file_path_and_name_determined M 𝓤 𝓛 mem run κs a g x y r₁ r₂ = settled 𝓤 (λ p q. p ∙ sym q)
 
 -- the slice of a record that is lent
-pub held_determined : Settled held.ended (λ M 𝓤. held.clauses 𝓤) (λ κs r₁ r₂. r₁ ≡ r₂)
+pub held_determined : Settled held.ended (λ M 𝓤 𝓛. held.clauses 𝓛) (λ κs r₁ r₂. r₁ ≡ r₂)
 held_determined M 𝓤 𝓛 mem run κs a g x y r₁ r₂ = settled 𝓤 (λ p q. p ∙ sym q)
 
 -- ---- requests

@@ -1,7 +1,5 @@
 // The name record: that very part of the caller's buffer, found to be a name, and nothing else.
 // An enum cannot hold it, so beside each of its two makers stands the call that says whether there is a name: `name_place` beside `of_request`, `good_name` beside `new`.
-// The prover does not walk functions over a struct that holds a reference by itself; theirs are walked by hand, once for every such struct (wire/proofs/HeldSlice.antt).
-// `name_of` and `request_name` take plain parameters, so that a caller of theirs needs no such walk.
 ghost use Rattle.std.specs.Prelude.{◌≡◌};
 ghost use Rattle.paper.specs.Request.{good_name};
 ghost use Rattle.wire.specs.Place.{IsPart};

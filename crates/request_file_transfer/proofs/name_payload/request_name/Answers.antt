@@ -1,0 +1,11 @@
+-- `request_file_transfer::name_payload::request_name` meets its contract: the part at a place, and the place is the paper's.
+use mathlib.Core.Path.{ap, subst, ◌∙◌}
+use borrow.Author.Rules.{rules}
+use Rattle.wire.specs.Place.{IsPart}
+use Rattle.wire.specs.declared.place.Place.{Place}
+use Rattle.file_operation.specs.Part.{or_empty}
+use Rattle.request_file_transfer.proofs.name_payload.request_name.Goals as goal
+
+pub returns : goal.returns
+returns c =
+    subst (λ (place : Place). IsPart c.args.message place.start place.len c.name_of.result) (c.or_empty.ensures ∙ ap or_empty c.name_place.ensures) c.name_of.ensures
