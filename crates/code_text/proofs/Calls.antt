@@ -1,7 +1,7 @@
 -- There and back, of calls that kept their contracts: a code that was written is read again, a text that was read is written again; a listing that was exported comes back with its codes and
 -- statuses, a text that was imported comes back as it was.
 -- Assumes nothing.
-use mathlib.Core.Path.{◌≡◌, refl, sym, ap, ap₂, ◌∙◌}
+use mathlib.Core.Path.{◌≡◌, sym, ap, ap₂, ◌∙◌}
 use Prim.Native.Nat.{ℕ}
 use mathlib.Core.Bool.{Bool, true, false}
 use mathlib.Core.List.{List, map}

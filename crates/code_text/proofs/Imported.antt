@@ -1,16 +1,15 @@
 -- The records of a text's first lines, one more, and what importing answers. Assumes nothing.
 use mathlib.Core.Path.{◌≡◌, refl, ap, subst, ◌∙◌}
-use Prim.Native.Nat.{ℕ, suc, ◌+◌, ◌*◌, ◌/◌, ◌%◌, ◌≤◌, ◌<◌}
+use Prim.Native.Nat.{ℕ, ◌+◌, ◌*◌, ◌%◌, ◌≤◌, ◌<◌}
 use mathlib.Core.List.{List, [], ◌∷◌, ◌++◌}
 use native.Mathlib.Numerals.{add-one}
 use native.Mathlib.Omega.{arith}
-use lib.ListN.{length, get_or, drop}
+use lib.ListN.{length, drop}
 use Rattle.paper.specs.Listing.{by_status_mask, Listed, sub_function_byte, record_bytes, listing, answer_byte, one_by_one, records_bytes, listing_bytes}
-use Rattle.paper.specs.CodeText.{line_places, lines, place_in, record_in_line, records_in_lines}
+use Rattle.paper.specs.CodeText.{lines, record_in_line, records_in_lines}
 use Rattle.paper.proofs.Listing.{length_bytes, bytes-more}
 use Rattle.paper.proofs.TextPlaces.{none_right}
 use Rattle.paper.proofs.LineText.{length-in-lines, in_lines_more}
-use Rattle.paper.proofs.ListingText.{whole-lines}
 use Rattle.wire.specs.Writing.{Filled}
 use Rattle.wire.proofs.Over.{rest, back, over_length, filled_none, filled_more, filled_as}
 use Rattle.code_text.specs.CodeText.{LineStands}

@@ -4,7 +4,7 @@ use Prim.Native.Nat.{ℕ, ◌+◌, ◌*◌, ◌<◌}
 use mathlib.Core.List.{List, []}
 use native.Mathlib.Omega.{arith}
 use native.Mathlib.Nat.{zero-add}
-use lib.ListN.{length, get_or, drop}
+use lib.ListN.{get_or, drop}
 use lib.Seq.{get_or-drop}
 use Rattle.paper.specs.TroubleCode.{trouble_code}
 use Rattle.paper.specs.CodeText.{hex_digits, code_places, line_places, one_code, hex_at, digit, code_in, NoneBad}
