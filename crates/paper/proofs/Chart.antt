@@ -38,13 +38,18 @@ module _ (top a : ℕ) (some : 0 < top * a) where
 
 -- ---- worked examples
 
--- the tops of some years: nothing refused, then the most of 100 that each top holds and one more
+-- the tops of some years: nothing refused, 1, 2, 3, 8, 11, 21 and 51 of 100
 abbrev year : ℕ → List (List ℕ)
 year refused = ((100 - refused) ∷ refused ∷ 0 ∷ 0 ∷ 0 ∷ 0 ∷ 0 ∷ 0 ∷ 0 ∷ 0 ∷ []) ∷ replicate 11 (replicate 10 0)
 
-pub tops : map (λ (n : ℕ). top_of (year n)) (0 ∷ 1 ∷ 2 ∷ 3 ∷ 5 ∷ 6 ∷ 10 ∷ 11 ∷ 20 ∷ 21 ∷ 50 ∷ 51 ∷ []) ≡ 1 ∷ 1 ∷ 2 ∷ 5 ∷ 5 ∷ 10 ∷ 10 ∷ 20 ∷ 20 ∷ 50 ∷ 50 ∷ 100 ∷ []
+pub tops : map (λ (n : ℕ). top_of (year n)) (0 ∷ 1 ∷ 2 ∷ 3 ∷ 8 ∷ 11 ∷ 21 ∷ 51 ∷ []) ≡ 1 ∷ 1 ∷ 2 ∷ 5 ∷ 10 ∷ 20 ∷ 50 ∷ 100 ∷ []
 unfolding sum fits top_of
 tops = refl
+
+-- the most of 100 that each top holds, and one more
+pub tops_at_their_ends : map (λ (n : ℕ). top_of (year n)) (5 ∷ 6 ∷ 10 ∷ 11 ∷ 20 ∷ 21 ∷ 50 ∷ 51 ∷ []) ≡ 5 ∷ 10 ∷ 10 ∷ 20 ∷ 20 ∷ 50 ∷ 50 ∷ 100 ∷ []
+unfolding sum fits top_of
+tops_at_their_ends = refl
 
 -- the scale of a small year has a line for each number
 pub scale_of_two : scale 2 ≡ ascii "<path d='M90,540H990' stroke='#ddd'/><text x='80' y='545' text-anchor='end'>0</text>\n<path d='M90,325H990' stroke='#ddd'/><text x='80' y='330' text-anchor='end'>1</text>\n<path d='M90,110H990' stroke='#ddd'/><text x='80' y='115' text-anchor='end'>2</text>\n"
