@@ -1,20 +1,19 @@
 -- The laws of a text that grows: one piece after the other, one letter and one blank of a form, and where nothing was left out, the bytes stand at
 -- the front of the buffer.
 -- Assumes nothing.
-use Prim.Native.Nat.{ℕ, zero, suc, ◌+◌, ◌≤◌, ◌<◌}
+use Prim.Native.Nat.{ℕ, suc, ◌+◌, ◌≤◌, ◌<◌}
 use mathlib.Core.Path.{◌≡◌, refl, sym, ap, ◌∙◌}
 use mathlib.Core.Bool.{Bool, true, false}
 use mathlib.Core.List.{List, [], ◌∷◌, ◌++◌, append_assoc}
 use native.Mathlib.Omega.{arith}
 use native.Mathlib.Numerals.{add-one}
-use borrow.Author.Tests.{lt-ltb, le-ltb, eq-eqb, ne_eqb}
+use borrow.Author.Tests.{lt-ltb, le-ltb, ne_eqb}
 use lib.Dec.{ltb}
 use lib.ListN.{length, drop, set, get_or, length-append, length-drop, drop_of_length-le}
 use lib.Seq.{drop-cons, drop-drop, set_at, length-take-le}
 use Rattle.io.specs.Counts.{IsPrefixLen}
 use Rattle.paper.specs.Choice.{pick}
 use Rattle.paper.specs.Answer.{over}
-use Rattle.paper.specs.ReadingProgram.{decimal}
 use Rattle.paper.specs.Form.{first_of, filled_in}
 use Rattle.form.specs.Text.{Text, text, with, grown, Grew}
 

@@ -1,5 +1,7 @@
 // A text put together from left to right. The first `at` bytes of `out` are the text so far; each function adds to them and answers how many they
 // then are. A letter for which `out` has no room is left out.
+#![tactic(auto)]
+
 ghost use Rattle.std.specs.Prelude.{◌≡◌, ◌+◌, ◌-◌, ◌*◌, ◌≤◌, ◌<◌, [], ◌∷◌, length, drop};
 ghost use Rattle.paper.specs.ReadingProgram.{decimal};
 ghost use Rattle.paper.specs.Form.{first_of, filled_in};
