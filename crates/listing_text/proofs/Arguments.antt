@@ -1,16 +1,14 @@
 -- What a listing's second byte and a word of two characters say. Assumes nothing.
-use mathlib.Core.Path.{◌≡◌, refl, sym}
-use Prim.Native.Nat.{ℕ, ◌+◌, ◌*◌, ◌≤◌, ◌<◌}
-use mathlib.Core.Bool.{Bool, true, false}
+use mathlib.Core.Path.{◌≡◌, refl}
+use Prim.Native.Nat.{ℕ, ◌≤◌, ◌<◌}
+use mathlib.Core.Bool.{true, false}
 use mathlib.Core.List.{List}
 use native.Mathlib.Omega.{arith}
 use borrow.Author.Tests.{eq-eqb, ne_eqb, lt-ltb, le-ltb}
 use lib.ListN.{length, get_or, get_or-eq_default}
-use lib.Dec.{ltb}
-use Rattle.paper.specs.Choice.{both}
 use Rattle.paper.specs.Listing.{by_status_mask, by_severity_mask}
 use Rattle.paper.specs.CodeText.{hex_at}
-use Rattle.paper.specs.ListingProgram.{sub_function_said, is_mask, mask_in}
+use Rattle.paper.specs.ListingProgram.{sub_function_said, is_mask}
 
 -- ---- the sub-function
 pub no_second : (s : List ℕ) → length s < 2 → by_status_mask ≡ sub_function_said s

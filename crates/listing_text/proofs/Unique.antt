@@ -8,7 +8,6 @@ use Rattle.wire.proofs.Unique.{Determined}
 use Rattle.wire.proofs.UniqueWriting.{WritesOnce}
 use Rattle.listing_text.specs.Import.{MaskRight}
 use Rattle.listing_text.specs.declared.import.MaskAnswer.{MaskAnswer}
-use Rattle.listing_text.specs.declared.import.Printed.{Printed}
 use Rattle.listing_text.proofs.room.Kinds as room-kinds
 use Rattle.listing_text.proofs.room.Reads as room
 use Rattle.listing_text.proofs.export.text_room.Kinds as text-room-kinds

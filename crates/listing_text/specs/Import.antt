@@ -1,5 +1,5 @@
 -- What the answers about the argument and about what is written say, in the paper's terms.
-use Rattle.std.specs.Prelude.{◌≡◌, ℕ, ◌≤◌, Bool, true, false, List, length}
+use Rattle.std.specs.Prelude.{◌≡◌, ℕ, Bool, true, false, List, length}
 use Rattle.io.specs.Counts.{IsPrefixLen}
 use Rattle.paper.specs.Answer.{over}
 use Rattle.paper.specs.ListingProgram as paper

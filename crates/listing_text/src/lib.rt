@@ -1,4 +1,6 @@
 // What the programs `export_listing` and `import_listing` write, down to the byte, and the room that they read an input into.
+#![tactic(auto)]
+
 pub mod export;
 pub mod import;
 
