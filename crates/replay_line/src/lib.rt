@@ -1,4 +1,6 @@
 // The text that the program `replay_log` prints of a log, and the room that it reads a log into.
+#![tactic(auto)]
+
 ghost use Rattle.std.specs.Prelude.{◌≡◌, ◌≤◌, length, replicate};
 ghost use Rattle.io.specs.Counts.{IsPrefixLen};
 ghost use Rattle.paper.specs.Answer.{over};
