@@ -15,7 +15,7 @@ use Rattle.paper.proofs.Batch.{PaperBatch, entry_for_entry}
 use Rattle.wire.specs.Reading.{Seen, found, stopped, said}
 use Rattle.wire.specs.declared.refusal.Refusal.{Refusal}
 use Rattle.wire.specs.declared.write.WriteAnswer.{WriteAnswer}
-use Rattle.file_operation.proofs.Calls.{slice}
+use Rattle.file_operation.proofs.Calls.{slice, buffer as lent}
 use Rattle.request_file_transfer.specs.Reading.{meant}
 use Rattle.request_file_transfer.specs.declared.read.RequestFileTransferRequest.{RequestFileTransferRequest}
 use Rattle.request_file_transfer.proofs.DemandThree.{ReadRequestCall, requests-keep}
@@ -59,8 +59,8 @@ pub example : ReadBatchCall buffer lengths (99 ∷ 99 ∷ 99 ∷ []) (accepted 2
 unfolding ◌>>=◌ give refuse over of_bytes in_range begins first_row char_length valid_from valid_up_to is_utf8 one_of known part byte headed counted name read_request sum messages number_of batch_numbers
 example = record {
   lifetimes = ([], ([], ([], tt)));
-  args = (slice buffer, (slice lengths, (slice (99 ∷ 99 ∷ 99 ∷ []), tt)));
-  exit = (slice buffer, (slice lengths, (slice (0 ∷ 1 ∷ 99 ∷ []), tt)));
+  args = (slice buffer, (slice lengths, (lent (99 ∷ 99 ∷ 99 ∷ []), tt)));
+  exit = (slice buffer, (slice lengths, (lent (0 ∷ 1 ∷ 99 ∷ []), tt)));
   result = WriteAnswer.Accepted 2;
   buffer_lent = refl;
   lengths_lent = refl;
