@@ -1,0 +1,6 @@
+-- `message::read::response_on` meets its contract: the record as it is, but for its place.
+use borrow.Author.Rules.{rules}
+use Rattle.message.proofs.read.response_on.Goals as goal
+
+pub returns : goal.returns
+returns c = rw c.block_on.ensures
