@@ -1,4 +1,6 @@
 // What the program `listing_changes` prints of two files, down to its text, and the rooms that it reads and writes in.
+#![tactic(auto)]
+
 mod line;
 
 ghost use Rattle.std.specs.Prelude.{◌≡◌, length, replicate};
