@@ -1,4 +1,6 @@
 // What the program `wrong_loads` prints of the year's records: a line for each month that has any.
+#![tactic(auto)]
+
 pub mod row;
 
 ghost use Rattle.std.specs.Prelude.{◌≡◌, length, replicate};
