@@ -1,4 +1,6 @@
 // What the program `wrong_loads_chart` prints of the year's records: a picture of the year, as an SVG.
+#![tactic(auto)]
+
 mod bars;
 mod frame;
 mod legend;

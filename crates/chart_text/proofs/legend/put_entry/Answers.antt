@@ -1,0 +1,10 @@
+-- `chart_text::legend::put_entry` meets its contract: the form with its six numbers, the words, and the end of the text.
+use mathlib.Core.Path.{refl}
+use lib.Dec.{lit≤}
+use Rattle.paper.specs.Chart.{entry}
+use Rattle.form.proofs.Grown.{more, put_as}
+use Rattle.chart_text.proofs.legend.put_entry.Goals as goal
+
+pub returns : goal.returns
+unfolding entry
+returns c = put_as (more c.put_form-a.ensures (more c.put_words-b.ensures c.put.ensures)) refl (lit≤ tt)
