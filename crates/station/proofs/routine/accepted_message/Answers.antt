@@ -1,0 +1,6 @@
+-- `station::routine::accepted_message` meets its contract: the bit and the sub-function in their numbers.
+use borrow.Author.Rules.{rules}
+use Rattle.station.proofs.routine.accepted_message.Goals as goal
+
+pub returns : goal.returns
+returns c = rw (c.bit.ensures, c.value.ensures)

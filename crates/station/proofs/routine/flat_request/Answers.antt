@@ -1,0 +1,11 @@
+-- `station::routine::flat_request` meets its contract: each arm is the definition's.
+use mathlib.Core.Path.{sym, ap, ◌∙◌}
+use Rattle.station.specs.Flat.{flat_routine_request}
+use borrow.Author.Rules.{rules}
+use Rattle.station.proofs.routine.flat_request.Goals as goal
+
+pub returns-in-Accepted : goal.returns-in-Accepted
+returns-in-Accepted c = c.accepted_request.ensures ∙ sym (ap flat_routine_request c.in-Accepted.is)
+
+pub returns-in-Refused : goal.returns-in-Refused
+returns-in-Refused c = c.refused_read.ensures ∙ sym (ap flat_routine_request c.in-Refused.is)

@@ -1,0 +1,6 @@
+-- `station::routine::refused_read` meets its contract: the refusal's three numbers.
+use borrow.Author.Rules.{rules}
+use Rattle.station.proofs.routine.refused_read.Goals as goal
+
+pub returns : goal.returns
+returns c = rw (c.number.ensures, c.first.ensures, c.second.ensures)
