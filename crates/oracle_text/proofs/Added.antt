@@ -1,7 +1,7 @@
 -- The laws of a text that grows: when bytes are added and when the text is given up, one element more of a list, and two hexadecimal digits to a byte.
 -- Assumes nothing.
-use Prim.Native.Nat.{ℕ, zero, suc, ◌+◌, ◌*◌, ◌-◌, ◌^◌, ◌≤◌, ◌<◌}
-use mathlib.Core.Path.{◌≡◌, refl, ap, ◌∙◌}
+use Prim.Native.Nat.{ℕ, zero, suc, ◌+◌, ◌≤◌, ◌<◌}
+use mathlib.Core.Path.{◌≡◌, refl, ap}
 use mathlib.Core.Bool.{Bool, true, false}
 use mathlib.Core.List.{List, [], ◌∷◌, ◌++◌}
 use native.Mathlib.Nat.{pow-suc, one-le-pow}
@@ -9,9 +9,9 @@ use native.Mathlib.Numerals.{add-one, unary_clauses}
 use native.Mathlib.Omega.{arith}
 use borrow.Author.Tests.{le-leb, lt-leb}
 use lib.Dec.{leb, lit<}
-use lib.ListN.{length, take, drop, set, get_or, length-append, take-append-drop}
+use lib.ListN.{length, take, set, get_or, length-append, take-append-drop}
 use lib.Seq.{length-take-le, take_all}
-use Rattle.io.specs.Digits.{last_digits, IsDigitCount}
+use Rattle.io.specs.Digits.{IsDigitCount}
 use Rattle.paper.specs.Choice.{pick, both}
 use Rattle.paper.specs.Answer.{accepted, over}
 use Rattle.paper.specs.ReadingProgram.{ascii}

@@ -6,7 +6,6 @@ use mathlib.Core.List.{List}
 use native.Mathlib.Omega.{arith}
 use lib.Arith.{digits_mod}
 use Rattle.wire.specs.Group.{UintRight}
-use Rattle.wire.specs.Size.{value}
 use Rattle.wire.specs.declared.size.Size.{Size}
 use Rattle.wire.specs.declared.group.SizeAnswer.{SizeAnswer}
 use Rattle.wire.specs.declared.refusal.Refusal.{Refusal}

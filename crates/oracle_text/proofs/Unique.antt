@@ -6,8 +6,6 @@ use mathlib.Core.List.{List}
 use Rattle.wire.proofs.Halves.{size_of, size_back}
 use Rattle.wire.proofs.Unique.{Determined}
 use Rattle.wire.proofs.UniqueWriting.{WritesOnce}
-use Rattle.wire.specs.declared.size.Size.{Size}
-use Rattle.oracle_text.specs.Input.{SizeIs}
 use Rattle.oracle_text.specs.Text.{Text, Stands}
 use Rattle.oracle_text.proofs.answer.flag.Kinds as flag-kinds
 use Rattle.oracle_text.proofs.answer.flag.Reads as flag
