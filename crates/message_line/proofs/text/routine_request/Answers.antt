@@ -1,0 +1,10 @@
+-- `message_line::text::routine_request` meets its contract: the form with its numbers.
+use mathlib.Core.Path.{refl}
+use lib.Dec.{lit≤}
+use Rattle.form.proofs.Grown.{put_as}
+use borrow.Author.Rules.{rules}
+use Rattle.message_line.proofs.text.routine_request.Goals as goal
+
+pub returns : goal.returns
+returns c =
+    rw (← c.value.ensures, ← c.bit-suppress.ensures) (put_as c.put_form.ensures refl (lit≤ tt))
