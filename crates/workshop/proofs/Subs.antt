@@ -1,10 +1,10 @@
 -- The doors for listings, by whether the sub-function is known: what their returns cite.
 -- Assumes nothing.
 use Prim.Native.Nat.{ℕ}
-use mathlib.Core.Path.{◌≡◌, refl, sym, ap, ◌∙◌}
+use mathlib.Core.Path.{◌≡◌, refl, sym, ap}
 use mathlib.Core.List.{List}
 use mathlib.Core.Option.{Option}
-use Rattle.paper.specs.Answer.{Refusal, Answer, accepted, refused, unknown_service}
+use Rattle.paper.specs.Answer.{Refusal, Answer, accepted, refused}
 use Rattle.paper.specs.TroubleCode.{TroubleCode}
 use Rattle.paper.specs.Listing.{SubFunction, Listing, Listed, read_listing, Head, head_of, record_at, Index, index_in, look_up_in, look_up, write_handed}
 use Rattle.paper.specs.CodeText.{export_in, export_listing}

@@ -1,5 +1,4 @@
 -- What the doors for codes and listings as text hand out: flat records.
-use Rattle.std.specs.Prelude.{ℕ}
 use Rattle.paper.specs.Answer.{Answer, accepted, refused}
 use Rattle.paper.specs.TroubleCode.{TroubleCode}
 use Rattle.workshop.specs.declared.texts.CodeRecord.{CodeRecord}
