@@ -1,0 +1,11 @@
+-- `parts::read::flat_two_sizes` meets its contract: each arm is the definition's.
+use mathlib.Core.Path.{sym, ap, ◌∙◌}
+use Rattle.parts.specs.Flat.{flat_two_sizes}
+use borrow.Author.Rules.{rules}
+use Rattle.parts.proofs.read.flat_two_sizes.Goals as goal
+
+pub returns-in-Accepted : goal.returns-in-Accepted
+returns-in-Accepted c = c.accepted_sizes.ensures ∙ sym (ap flat_two_sizes c.in-Accepted.is)
+
+pub returns-in-Refused : goal.returns-in-Refused
+returns-in-Refused c = c.refused_sizes.ensures ∙ sym (ap flat_two_sizes c.in-Refused.is)
