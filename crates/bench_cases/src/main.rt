@@ -1,8 +1,13 @@
 // Takes nothing: runs every row of document 01's bench table through the real functions, and prints whether it is right or differs, and at the end how many differ.
+#![tactic(auto)]
+
 mod rows;
 mod table;
 mod tally;
 
-fn main() {
-    tally::sum_up(table::all_rows(tally::start()));
+use std::io;
+
+fn main(rt: HostRuntime) -> io::Result<()> {
+    let t = table::all_rows(&rt, tally::start())?;
+    tally::sum_up(&rt, t)
 }

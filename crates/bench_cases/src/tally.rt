@@ -1,8 +1,8 @@
 // Prints a line for each row, and counts.
-ghost use Rattle.std.specs.Prelude.{◌≡◌};
+ghost use Rattle.std.specs.Prelude.{◌≡◌, IfOk};
 ghost use Rattle.bench_cases.specs.Tally.{nothing_yet, counted};
 
-use libc::STDOUT_FILENO;
+use std::io;
 use std::num::wrapping_add_u64;
 
 #[derive(Clone, Copy)]
@@ -18,21 +18,20 @@ pub(crate) fn start() -> Tally
 }
 
 // Only prints.
-fn print_row(what: &[u8], right: bool) {
+fn print_row(rt: &impl Print, what: &[u8], right: bool) -> io::Result<()> {
     if right {
-        io::write_all(STDOUT_FILENO, b"right    ");
+        rt.write_all(b"right    ")?;
     } else {
-        io::write_all(STDOUT_FILENO, b"DIFFERS  ");
+        rt.write_all(b"DIFFERS  ")?;
     }
-    io::write_all(STDOUT_FILENO, what);
-    io::write_all(STDOUT_FILENO, b"\n");
+    rt.write_all(what)?;
+    rt.write_all(b"\n")
 }
 
 // `right` is whether the functions answered what the row says.
-pub(crate) fn row(t: Tally, what: &[u8], right: bool) -> Tally
+fn row(t: Tally, right: bool) -> Tally
     ensures { result ≡ counted t right }
 {
-    print_row(what, right);
     let rows = wrapping_add_u64(t.rows, 1);
     if right {
         return Tally {
@@ -46,10 +45,17 @@ pub(crate) fn row(t: Tally, what: &[u8], right: bool) -> Tally
     }
 }
 
+// Prints the row, and counts it.
+pub(crate) fn tried(rt: &impl Print, t: Tally, what: &[u8], right: bool) -> io::Result<Tally>
+    ensures { IfOk result (λ now. now ≡ counted t right) }
+{
+    print_row(rt, what, right)?;
+    Ok(row(t, right))
+}
+
 // Only prints.
-pub(crate) fn sum_up(t: Tally) {
-    io::print_decimal(STDOUT_FILENO, t.rows);
-    io::write_all(STDOUT_FILENO, b" rows, ");
-    io::print_decimal(STDOUT_FILENO, t.differ);
-    io::write_all(STDOUT_FILENO, b" differ\n");
+pub(crate) fn sum_up(rt: &impl Print, t: Tally) -> io::Result<()> {
+    let rows = t.rows;
+    let differ = t.differ;
+    println!(rt; "{rows} rows, {differ} differ")
 }

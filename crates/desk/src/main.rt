@@ -1,10 +1,13 @@
 // Reads one file transfer request from standard input, to its end, and prints what the desk says of it: `passes`, the refusal or `too long`.
-use desk_line::desk_text;
+#![tactic(auto)]
 
-fn main() {
+use desk_line::desk_text;
+use std::io;
+
+fn main(rt: HostRuntime) -> io::Result<()> {
     let mut input = desk_line::room();
-    let n = io::read_full(libc::STDIN_FILENO, &mut input);
-    let mut text = io::buffer();
+    let n = streams::read_full(&mut rt.stdin(), &mut input)?;
+    let mut text = [0u8; 4096];
     let k = desk_text(&input[..n], &mut text);
-    io::write_all(libc::STDOUT_FILENO, &text[..k]);
+    rt.write_all(&text[..k])
 }

@@ -1,65 +1,69 @@
 // Prints, for each word and file that its arguments name, both names and what `import_listing` writes with that word of the file's contents: a listing, and a line feed after it, or a line.
-use dtc::status::DtcStatusMask;
-use libc::STDOUT_FILENO;
-use listing_text::import::{MaskAnswer, import_text, listing_room, mask_in, usage_text};
+#![tactic(auto)]
 
-fn print_imported(mask: DtcStatusMask, fd: i32) {
+use dtc::status::DtcStatusMask;
+use listing_text::import::{MaskAnswer, import_text, listing_room, mask_in, usage_text};
+use std::io;
+use std::io::Read;
+
+fn print_imported(rt: &impl Print, mask: DtcStatusMask, file: &mut impl Read) -> io::Result<()> {
     let mut text = listing_text::room();
-    let n = io::read_full(fd, &mut text);
+    let n = streams::read_full(file, &mut text)?;
     let mut out = listing_room();
     let printed = import_text(mask, &text[..n], &mut out);
     let k = printed.count;
     if printed.to_output {
-        io::write_all(STDOUT_FILENO, b" to standard output:\n");
-        io::write_all(STDOUT_FILENO, &out[..k]);
-        io::write_all(STDOUT_FILENO, b"\n");
+        rt.write_all(b" to standard output:\n")?;
+        rt.write_all(&out[..k])?;
+        rt.write_all(b"\n")
     } else {
-        io::write_all(STDOUT_FILENO, b" to standard error:\n");
-        io::write_all(STDOUT_FILENO, &out[..k]);
+        rt.write_all(b" to standard error:\n")?;
+        rt.write_all(&out[..k])
     }
 }
 
-fn print_usage() {
+fn print_usage(rt: &impl Print) -> io::Result<()> {
     let mut text = listing_room();
     let k = usage_text(&mut text);
-    io::write_all(STDOUT_FILENO, b" to standard error:\n");
-    io::write_all(STDOUT_FILENO, &text[..k]);
+    rt.write_all(b" to standard error:\n")?;
+    rt.write_all(&text[..k])
 }
 
-fn print_word(word: &[u8], fd: i32) {
+fn print_word(rt: &impl Print, word: &[u8], file: &mut impl Read) -> io::Result<()> {
     match mask_in(word) {
-        MaskAnswer::Mask(mask) => print_imported(mask, fd),
-        MaskAnswer::Nothing => print_usage(),
+        MaskAnswer::Mask(mask) => print_imported(rt, mask, file),
+        MaskAnswer::Nothing => print_usage(rt),
     }
+}
+
+// The word that this argument is, the path and what stands in its file.
+fn print_pair(rt: &HostRuntime, first: usize, path: &[u8], file: &mut impl Read) -> io::Result<()> {
+    let mut word = [0u8; 4096];
+    let k = streams::argument(rt, first, &mut word);
+    rt.write_all(&word[..k])?;
+    rt.write_all(b" ")?;
+    rt.write_all(path)?;
+    print_word(rt, &word[..k], file)
 }
 
 // The word and the file that these two arguments are.
-fn print_case(first: usize, second: usize) {
-    let mut path = io::buffer();
-    let n = os::arg(second, &mut path);
-    let fd = os::open_read(&path[..n]);
-    if fd < 0 {
-        os::fail(&path[..n]);
-        return;
-    }
-    let mut word = io::buffer();
-    let k = os::arg(first, &mut word);
-    io::write_all(STDOUT_FILENO, &word[..k]);
-    io::write_all(STDOUT_FILENO, b" ");
-    io::write_all(STDOUT_FILENO, &path[..n]);
-    print_word(&word[..k], fd);
-    libc::close(fd);
-}
-
-fn print_all() {
-    let pairs = os::arg_count() / 2;
-    let mut i = 0;
-    while i < pairs {
-        print_case(2 * i + 1, 2 * i + 2);
-        i += 1;
+fn print_case(rt: &HostRuntime, first: usize, second: usize) -> io::Result<()> {
+    let mut path = [0u8; 4096];
+    let n = streams::argument(rt, second, &mut path);
+    match streams::open_read(rt, &path[..n]) {
+        Ok(mut file) => print_pair(rt, first, &path[..n], &mut file),
+        Err(error) => streams::fail(&mut rt.stderr(), rt.alloc(), &path[..n], &error),
     }
 }
 
-fn main() {
-    print_all();
+fn print_all(rt: &HostRuntime) -> io::Result<()> {
+    let pairs = streams::argument_count(rt, usize::MAX) / 2;
+    for i in 0..pairs {
+        print_case(rt, 2 * i + 1, 2 * i + 2)?;
+    }
+    Ok(())
+}
+
+fn main(rt: HostRuntime) -> io::Result<()> {
+    print_all(&rt)
 }

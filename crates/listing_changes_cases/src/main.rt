@@ -1,54 +1,69 @@
 // Prints, for each two files that its arguments name one after the other, both names and what `listing_changes` prints of the contents.
-use changes_text::changes_text;
-use libc::STDOUT_FILENO;
+#![tactic(auto)]
 
-fn print_text(old: i32, new: i32) {
-    let mut first = changes_text::room();
-    let n = io::read_full(old, &mut first);
-    let mut second = changes_text::room();
-    let m = io::read_full(new, &mut second);
-    let mut text = changes_text::text_room();
-    let k = changes_text(&first[..n], &second[..m], &mut text);
-    io::write_all(STDOUT_FILENO, &text[..k]);
+ghost use Rattle.std.specs.Io.{ReadsAtMost};
+
+use changes_text::changes_text;
+use std::fs::File;
+use std::io;
+use std::rt::Env;
+
+// How many bytes stand in the file, as far as `buf` goes, at whose start they are put; none where no file could be opened.
+fn read_opened(file: &mut Option<File>, buf: &mut [u8]) -> io::Result<usize>
+    ensures { ReadsAtMost result buf.new }
+{
+    match file {
+        Some(open) => streams::read_full(open, buf),
+        None => Ok(0),
+    }
 }
 
-fn print_name(i: usize, sign: &[u8]) {
-    let mut name = io::buffer();
-    let n = os::arg(i, &mut name);
-    io::write_all(STDOUT_FILENO, &name[..n]);
-    io::write_all(STDOUT_FILENO, sign);
+fn print_text(rt: &impl Print, old: &mut Option<File>, new: &mut Option<File>) -> io::Result<()> {
+    let mut first = changes_text::room();
+    let n = read_opened(old, &mut first)?;
+    let mut second = changes_text::room();
+    let m = read_opened(new, &mut second)?;
+    let mut text = changes_text::text_room();
+    let k = changes_text(&first[..n], &second[..m], &mut text);
+    rt.write_all(&text[..k])
+}
+
+fn print_name(rt: &(impl Env + Print), i: usize, sign: &[u8]) -> io::Result<()> {
+    let mut name = [0u8; 4096];
+    let n = streams::argument(rt, i, &mut name);
+    rt.write_all(&name[..n])?;
+    rt.write_all(sign)
 }
 
 // The file that an argument names, open for reading; where it can't be opened, it is said, and nothing will be read from it.
-fn opened(i: usize) -> i32 {
-    let mut path = io::buffer();
-    let n = os::arg(i, &mut path);
-    let fd = os::open_read(&path[..n]);
-    if fd < 0 {
-        os::fail(&path[..n]);
-    }
-    fd
-}
-
-fn print_case(i: usize, j: usize) {
-    print_name(i, b" ");
-    print_name(j, b": ");
-    let old = opened(i);
-    let new = opened(j);
-    print_text(old, new);
-    libc::close(old);
-    libc::close(new);
-}
-
-fn print_all() {
-    let pairs = os::arg_count() / 2;
-    let mut k = 0;
-    while k < pairs {
-        print_case(2 * k + 1, 2 * k + 2);
-        k += 1;
+fn opened(rt: &HostRuntime, i: usize) -> io::Result<Option<File>> {
+    let mut path = [0u8; 4096];
+    let n = streams::argument(rt, i, &mut path);
+    match streams::open_read(rt, &path[..n]) {
+        Ok(file) => Ok(Some(file)),
+        Err(error) => {
+            streams::fail(&mut rt.stderr(), rt.alloc(), &path[..n], &error)?;
+            Ok(None)
+        }
     }
 }
 
-fn main() {
-    print_all();
+fn print_case(rt: &HostRuntime, i: usize, j: usize) -> io::Result<()> {
+    print_name(rt, i, b" ")?;
+    print_name(rt, j, b": ")?;
+    let mut old = opened(rt, i)?;
+    let mut new = opened(rt, j)?;
+    print_text(rt, &mut old, &mut new)
+}
+
+fn print_all(rt: &HostRuntime) -> io::Result<()> {
+    let pairs = streams::argument_count(rt, usize::MAX) / 2;
+    for k in 0..pairs {
+        print_case(rt, 2 * k + 1, 2 * k + 2)?;
+    }
+    Ok(())
+}
+
+fn main(rt: HostRuntime) -> io::Result<()> {
+    print_all(&rt)
 }

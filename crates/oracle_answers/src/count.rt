@@ -3,7 +3,7 @@ ghost use Rattle.std.specs.Prelude.{◌≡◌};
 ghost use Rattle.oracle_answers.specs.Tally.{nothing_yet, passed_over, Judged};
 
 use check::same;
-use libc::STDOUT_FILENO;
+use std::io::Result;
 use std::num::wrapping_add_u64;
 
 #[derive(Clone, Copy)]
@@ -36,15 +36,6 @@ pub(crate) fn passed(t: Tally) -> Tally
     }
 }
 
-// Only prints.
-fn print_line(number: u64, line: &[u8]) {
-    io::write_all(STDOUT_FILENO, b"line ");
-    io::print_decimal(STDOUT_FILENO, number);
-    io::write_all(STDOUT_FILENO, b" differs: ");
-    io::write_all(STDOUT_FILENO, line);
-    io::write_all(STDOUT_FILENO, b"\n");
-}
-
 // A line that has one, and the line with our answer instead.
 pub(crate) fn judged(t: Tally, line: &[u8], ours: &[u8]) -> Tally
     ensures { Judged line.now ours.now t result }
@@ -58,9 +49,6 @@ pub(crate) fn judged(t: Tally, line: &[u8], ours: &[u8]) -> Tally
             differ: t.differ,
         };
     }
-    if t.differ < PRINTED {
-        print_line(lines, line);
-    }
     Tally {
         lines,
         answers,
@@ -69,9 +57,28 @@ pub(crate) fn judged(t: Tally, line: &[u8], ours: &[u8]) -> Tally
 }
 
 // Only prints.
-pub(crate) fn sum_up(t: Tally) {
-    io::print_decimal(STDOUT_FILENO, t.answers);
-    io::write_all(STDOUT_FILENO, b" answers, ");
-    io::print_decimal(STDOUT_FILENO, t.differ);
-    io::write_all(STDOUT_FILENO, b" differ\n");
+fn print_line(rt: &impl Print, number: u64, line: &[u8]) -> Result<()> {
+    print!(rt; "line {number} differs: ")?;
+    rt.write_all(line)?;
+    rt.write_all(b"\n")
+}
+
+// Only prints: the line that was judged between these two tallies, if it differs and is one of the first that do.
+pub(crate) fn print_if_differs(
+    rt: &impl Print,
+    before: Tally,
+    after: Tally,
+    line: &[u8],
+) -> Result<()> {
+    if before.differ < PRINTED && before.differ != after.differ {
+        print_line(rt, after.lines, line)?;
+    }
+    Ok(())
+}
+
+// Only prints.
+pub(crate) fn sum_up(rt: &impl Print, t: Tally) -> Result<()> {
+    let answers = t.answers;
+    let differ = t.differ;
+    println!(rt; "{answers} answers, {differ} differ")
 }

@@ -1,10 +1,11 @@
 // The lines of a page. A line is a letter, an input in hexadecimal and the answer, with a space between.
 ghost use Rattle.io.specs.Counts.{IsPrefixLen};
 
-use crate::count::{Tally, judged, passed};
+use crate::count::{Tally, judged, passed, print_if_differs};
 use crate::hex::bytes_of;
 use bytes::scan::find;
 use oracle_text::text::{begin, put_hex};
+use std::io::Result;
 
 // Each letter's call is made by one of four crates: capital letters stand for calls through the doors, small ones for the others.
 fn put_answer(letter: u8, input: &[u8], out: &mut [u8], at: usize) -> usize
@@ -26,7 +27,7 @@ fn anew(line: &[u8], out: &mut [u8]) -> usize
         return 0;
     }
     let end = find(line, 2, line.len(), b' ');
-    let mut input = io::buffer();
+    let mut input = [0u8; 4096];
     let n = bytes_of(&line[2..end], &mut input);
     let letter = begin(line[0], out);
     let front = put_hex(&input[..n], out, letter);
@@ -34,25 +35,27 @@ fn anew(line: &[u8], out: &mut [u8]) -> usize
 }
 
 // Empty lines fill a page up, and the head's begin with a number sign.
-fn judge(t: Tally, line: &[u8]) -> Tally {
+fn judge(rt: &impl Print, t: Tally, line: &[u8]) -> Result<Tally> {
     if line.len() == 0 {
-        return passed(t);
+        return Ok(passed(t));
     }
     if line[0] == b'#' {
-        return passed(t);
+        return Ok(passed(t));
     }
-    let mut text = io::buffer();
+    let mut text = [0u8; 4096];
     let n = anew(line, &mut text);
-    judged(t, line, &text[..n])
+    let after = judged(t, line, &text[..n]);
+    print_if_differs(rt, t, after, line)?;
+    Ok(after)
 }
 
-pub(crate) fn lines(t: Tally, page: &[u8]) -> Tally {
+pub(crate) fn lines(rt: &impl Print, t: Tally, page: &[u8]) -> Result<Tally> {
     let mut t = t;
     let mut at = 0;
     while at < page.len() {
         let end = find(page, at, page.len(), b'\n');
-        t = judge(t, &page[at..end]);
+        t = judge(rt, t, &page[at..end])?;
         at = end + 1;
     }
-    t
+    Ok(t)
 }

@@ -1,11 +1,14 @@
 // Reads one file transfer request from standard input, to its end, and prints one line about it.
+#![tactic(auto)]
+
 use request_line::text::line_text;
+use std::io;
 
 // The buffer holds more than a message may have, so that a longer input is seen to be too long.
-fn main() {
-    let mut input = io::large_buffer();
-    let n = io::read_full(libc::STDIN_FILENO, &mut input);
-    let mut text = io::buffer();
+fn main(rt: HostRuntime) -> io::Result<()> {
+    let mut input = [0u8; 65536];
+    let n = streams::read_full(&mut rt.stdin(), &mut input)?;
+    let mut text = [0u8; 4096];
     let k = line_text(&input[..n], &mut text);
-    io::write_all(libc::STDOUT_FILENO, &text[..k]);
+    rt.write_all(&text[..k])
 }

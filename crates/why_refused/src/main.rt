@@ -1,34 +1,38 @@
 // Reads one file transfer message from standard input, to its end, and prints why it is refused, or that it is accepted; its one argument is `request` or `response`.
+#![tactic(auto)]
+
 use reason_line::sort::{Sort, SortAnswer, sort_named};
 use reason_line::text::{usage_text, why_text};
+use std::io;
+use std::rt::Env;
 
-fn print_line(sort: Sort) {
+fn print_line(rt: &HostRuntime, sort: Sort) -> io::Result<()> {
     let mut input = reason_line::room();
-    let n = io::read_full(libc::STDIN_FILENO, &mut input);
-    let mut text = io::buffer();
+    let n = streams::read_full(&mut rt.stdin(), &mut input)?;
+    let mut text = [0u8; 4096];
     let k = why_text(sort, &input[..n], &mut text);
-    io::write_all(libc::STDOUT_FILENO, &text[..k]);
+    rt.write_all(&text[..k])
 }
 
-fn print_usage() {
-    let mut text = io::buffer();
+fn print_usage(err: &impl Print) -> io::Result<()> {
+    let mut text = [0u8; 4096];
     let k = usage_text(&mut text);
-    io::write_all(libc::STDERR_FILENO, &text[..k]);
+    err.write_all(&text[..k])
 }
 
 // The sort that the one argument names; none where there is no argument or more than one.
-fn sort_asked() -> SortAnswer {
-    if os::arg_count() != 2 {
+fn sort_asked(rt: &impl Env) -> SortAnswer {
+    if streams::argument_count(rt, 3) != 2 {
         return SortAnswer::Unknown;
     }
-    let mut word = io::buffer();
-    let n = os::arg(1, &mut word);
+    let mut word = [0u8; 4096];
+    let n = streams::argument(rt, 1, &mut word);
     sort_named(&word[..n])
 }
 
-fn main() {
-    match sort_asked() {
-        SortAnswer::Named(sort) => print_line(sort),
-        SortAnswer::Unknown => print_usage(),
+fn main(rt: HostRuntime) -> io::Result<()> {
+    match sort_asked(&rt) {
+        SortAnswer::Named(sort) => print_line(&rt, sort),
+        SortAnswer::Unknown => print_usage(&rt.stderr()),
     }
 }

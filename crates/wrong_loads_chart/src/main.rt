@@ -1,10 +1,13 @@
 // Reads the year's records from standard input, to its end, and prints a picture of the year, as an SVG.
-use chart_text::chart_text;
+#![tactic(auto)]
 
-fn main() {
+use chart_text::chart_text;
+use std::io;
+
+fn main(rt: HostRuntime) -> io::Result<()> {
     let mut input = loads_text::room();
-    let n = io::read_full(libc::STDIN_FILENO, &mut input);
-    let mut text = io::large_buffer();
+    let n = streams::read_full(&mut rt.stdin(), &mut input)?;
+    let mut text = [0u8; 65536];
     let k = chart_text(&input[..n], &mut text);
-    io::write_all(libc::STDOUT_FILENO, &text[..k]);
+    rt.write_all(&text[..k])
 }
