@@ -1,9 +1,9 @@
 // The lines of a page. A line is a letter, an input in hexadecimal and the answer, with a space between.
+ghost use Rattle.std.specs.Prelude.{◌≤◌, length};
 ghost use Rattle.io.specs.Counts.{IsPrefixLen};
 
 use crate::count::{Tally, judged, passed, print_if_differs};
 use crate::hex::bytes_of;
-use bytes::scan::find;
 use oracle_text::text::{begin, put_hex};
 use std::io::Result;
 
@@ -19,6 +19,20 @@ fn put_answer(letter: u8, input: &[u8], out: &mut [u8], at: usize) -> usize
     }
 }
 
+// The first place from `from` on where the byte stands, or the end of the text where there is none.
+fn find(text: &[u8], from: usize, byte: u8) -> usize
+    requires { from ≤ length text.now }
+    ensures from { from ≤ result }
+    ensures end { result ≤ length text.now }
+{
+    for i in from..text.len() {
+        if text[i] == byte {
+            return i;
+        }
+    }
+    text.len()
+}
+
 // The line written anew: its own letter and input, and then our answer. What cannot be taken apart comes out otherwise than it was.
 fn anew(line: &[u8], out: &mut [u8]) -> usize
     ensures { IsPrefixLen result out.new }
@@ -26,7 +40,7 @@ fn anew(line: &[u8], out: &mut [u8]) -> usize
     if line.len() < 2 {
         return 0;
     }
-    let end = find(line, 2, line.len(), b' ');
+    let end = find(line, 2, b' ');
     let mut input = [0u8; 4096];
     let n = bytes_of(&line[2..end], &mut input);
     let letter = begin(line[0], out);
@@ -53,7 +67,7 @@ pub(crate) fn lines(rt: &impl Print, t: Tally, page: &[u8]) -> Result<Tally> {
     let mut t = t;
     let mut at = 0;
     while at < page.len() {
-        let end = find(page, at, page.len(), b'\n');
+        let end = find(page, at, b'\n');
         t = judge(rt, t, &page[at..end])?;
         at = end + 1;
     }
