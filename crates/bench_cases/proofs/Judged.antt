@@ -1,15 +1,15 @@
 -- What a row asks of each sort of answer, as one fact about the answer: the tests of its fields, put together.
 -- Assumes nothing.
-use Rattle.std.proofs.Common.{◌≡◌, ℕ, ◌+◌, ◌*◌, ◌^◌, ◌<◌, Bool, true, ◌&&◌, eqb, ◌↔◌, List, [], refl, ap, arith}
+use Rattle.std.proofs.Common.{◌≡◌, ℕ, ◌+◌, ◌*◌, ◌^◌, ◌<◌, Bool, ◌&&◌, eqb, List, refl, ap, arith}
 use mathlib.Core.Logic.Iff
-use Rattle.paper.specs.Answer.{Refusal, refusal, Answer, accepted, Read, ◌leaving◌}
+use Rattle.paper.specs.Answer.{Refusal, refusal}
 use Rattle.paper.specs.Kind.{Kind}
 use Rattle.paper.specs.Request.{Request, request}
 use Rattle.paper.specs.Response.{Response, response}
 use Rattle.paper.specs.RoutineControl.{SubFunction, RoutineRequest}
 use Rattle.paper.specs.TroubleCode.{TroubleCode, trouble_code}
 use Rattle.routine_control.specs.Request.{routine_request}
-use Rattle.bench_cases.proofs.Exactly.{Tests, ◌and◌, numbers, on_accepted}
+use Rattle.bench_cases.proofs.Exactly.{Tests, ◌and◌, numbers}
 
 -- a refusal has the number, and carries the two values
 pub refusal-says : {e : Refusal} {x y z : Bool} {n a b : ℕ} → Tests x (e.number ≡ n) → Tests y (e.first ≡ a) → Tests z (e.second ≡ b) → Tests (x && y && z) (e ≡ refusal n a b)

@@ -1,6 +1,6 @@
 -- What a row asks of a rewritten message: the bytes at the front of the buffer, and nothing left over.
 -- Assumes nothing.
-use Rattle.std.proofs.Common.{◌≡◌, ℕ, ◌≤◌, Bool, true, false, ◌&&◌, eqb, leb, List, [], length, take, drop, sym, refl, ap, ◌∙◌, subst, arith, take_at, le-leb, leb-true}
+use Rattle.std.proofs.Common.{◌≡◌, ℕ, ◌≤◌, Bool, true, false, ◌&&◌, eqb, leb, List, [], length, take, sym, refl, ap, ◌∙◌, subst, arith, take_at, le-leb, leb-true}
 use mathlib.Core.Logic.Iff
 use Rattle.paper.specs.Answer.{Answer, accepted, refused, Read, ◌leaving◌, Reader, over}
 use Rattle.paper.specs.Rewriting.{RewrittenInto, rewritten_into}
