@@ -1,4 +1,6 @@
 // A morning's messages in one call: a buffer of requests, one after the other, and a list of their lengths. Document 02 asks for it; the original has none.
+#![tactic(auto)]
+
 ghost use Rattle.std.specs.Prelude.{◌≡◌, ◌≤◌, length};
 ghost use Rattle.paper.specs.Tally.{sum};
 ghost use Rattle.paper.specs.Batch.{number_of, batch_numbers};

@@ -1,4 +1,6 @@
 // The desk check: is this one request good to be loaded? Document 01 adds it, and document 02 gives its rule; the original has none.
+#![tactic(auto)]
+
 ghost use Rattle.std.specs.Prelude.{◌≡◌, eqb};
 ghost use Rattle.paper.specs.Desk.{desk_check};
 ghost use Rattle.wire.specs.Size.{value};

@@ -1,4 +1,6 @@
 // Requests that were joined without lengths, taken apart again: the archive's buffer gives back the list of their lengths.
+#![tactic(auto)]
+
 ghost use Rattle.std.specs.Prelude.{◌≡◌, ◌≤◌, length, drop};
 ghost use Rattle.paper.specs.Answer.{over};
 ghost use Rattle.paper.specs.Joined.{pieces_of};

@@ -1,6 +1,8 @@
 // The recorded calls on bytes that have a meaning, masks, names and constants, to which no door leads: the letters a to h and p to r. The head of the list
 // says what each answers. Each input is one byte.
 // An input of another length gives an empty text, which is unlike any line, and so does a letter that is none of these.
+#![tactic(auto)]
+
 mod constants;
 mod mask;
 mod named;

@@ -1,5 +1,7 @@
 // The recorded calls on trouble codes and their fields to which no door leads: the letters i to o. The head of the list says what stands where in their inputs.
 // An input of the wrong length gives an empty text, which is unlike any line, and so does a letter that is none of these.
+#![tactic(auto)]
+
 mod code;
 mod field;
 mod number;

@@ -1,5 +1,7 @@
 // The recorded calls through the doors of crate station: the letters A to M. The head of the list says what stands where in their inputs.
 // An input of the wrong length gives an empty text, which is unlike any line, and so does a letter that is none of these.
+#![tactic(auto)]
+
 mod read;
 mod room;
 

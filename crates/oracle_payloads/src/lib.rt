@@ -1,6 +1,8 @@
 // The recorded calls on file transfer messages below the doors of `station`, modes and payloads: the letters s to y. The head of the list says what stands where in
 // their inputs. SizePayload, FileSizePayload, DirSizePayload, PositionPayload, SentDataPayload and NamePayload are counted from 0.
 // An input of the wrong length gives an empty text, which is unlike any line, and so does a letter that is none of these.
+#![tactic(auto)]
+
 mod format;
 mod mode;
 mod read;

@@ -10,8 +10,7 @@ use lib.ListN.{length, get_or, take, drop, length-append, length-drop, take-appe
 use lib.Seq.{length-take-le, drop-drop, take-append_seam, drop-append_seam, get_or-append-add, get_or-drop}
 use lib.Dec.{leb, eqb}
 use borrow.Author.Tests.{leb-true, eqb-true, le-leb, eq-eqb}
-use Rattle.paper.specs.Choice.{pick}
-use Rattle.paper.specs.Answer.{Refusal, cut, too_many, Answer, accepted, refused, check, over, Written, written}
+use Rattle.paper.specs.Answer.{Refusal, cut, too_many, Answer, accepted, refused, check, over, written}
 use Rattle.paper.specs.Tally.{sum}
 use Rattle.paper.specs.Batch.{messages, joined, number_of, batch_numbers, read_batch, message_at, EntryForEntry}
 use Rattle.paper.proofs.Choice.{never, check_passed}

@@ -1,10 +1,10 @@
 -- Document 02, Req 08: what some batches answer and what the lent list holds afterwards, by computing the definitions.
 -- Assumes nothing.
 use mathlib.Core.Path.{◌≡◌, refl}
-use Prim.Native.Nat.{ℕ, ◌+◌}
+use Prim.Native.Nat.{ℕ}
 use mathlib.Core.List.{List, [], ◌∷◌, ◌++◌, map}
-use lib.ListN.{length, replicate}
-use Rattle.paper.specs.Answer.{refusal, Answer, accepted, refused, ◌>>=◌, give, refuse, over, Written}
+use lib.ListN.{replicate}
+use Rattle.paper.specs.Answer.{refusal, Answer, accepted, refused, ◌>>=◌, give, refuse, over}
 use Rattle.paper.specs.Bytes.{of_bytes}
 use Rattle.paper.specs.Utf8.{in_range, begins, first_row, char_length, valid_from, valid_up_to, is_utf8}
 use Rattle.paper.specs.Kind.{one_of, known}

@@ -17,7 +17,7 @@ use Rattle.paper.specs.Listing.{first_place, numbers_from}
 use Rattle.paper.specs.CodeText.{hex_digits, code_places, line_places, code_digits, spelt, code_text, one_code, place_in, digit, code_in, read_code_text, FirstBad, NoneBad}
 use Rattle.paper.proofs.Choice.{never}
 use Rattle.paper.proofs.Spelling.{Fits, fits_at, AllOnce, spelt_back, values_at, values_spelt, values_fit}
-use Rattle.paper.proofs.TextPlaces.{Stands, Right, none_right, right-passes, bad-refused, passed_right, refused_by}
+use Rattle.paper.proofs.TextPlaces.{Right, none_right, right-passes, bad-refused, passed_right, refused_by}
 
 -- ---- a code and its digits
 code_once : AllOnce code_places

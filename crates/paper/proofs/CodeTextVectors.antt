@@ -7,7 +7,7 @@ use Prim.Native.String.{String}
 use mathlib.Core.List.{List, [], ◌∷◌, ◌++◌, map}
 use native.Mathlib.Omega.{arith}
 use lib.ListN.{replicate, length-replicate}
-use Rattle.paper.specs.Answer.{refusal, Answer, accepted, refused, over, written}
+use Rattle.paper.specs.Answer.{refusal, accepted, refused, over, written}
 use Rattle.paper.specs.TroubleCode.{TroubleCode, trouble_code}
 use Rattle.paper.specs.ReadingProgram.{ascii}
 use Rattle.paper.specs.Joined.{Each}

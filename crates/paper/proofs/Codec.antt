@@ -1,13 +1,13 @@
 -- Readers and ways of writing: what holds of one field, of one after the other, and, for demand 3, of a whole message.
 -- Assumes nothing.
 use mathlib.Core.Path.{◌≡◌, refl, ap, sym, subst, ◌∙◌}
-use Prim.Native.Nat.{ℕ, ◌+◌, ◌≤◌}
+use Prim.Native.Nat.{ℕ, ◌≤◌}
 use mathlib.Core.List.{List, [], ◌++◌, append_assoc, append-nil}
 use mathlib.Core.Bool.{Bool, true, false}
 use mathlib.Core.Logic.{◌↔◌}
 use native.Mathlib.Omega.{arith}
 use lib.ListN.{length}
-use Rattle.paper.specs.Answer.{Refusal, Answer, accepted, refused, check, Read, ◌leaving◌, Reader, onward, ◌>>=◌, give, refuse, judge, hand_out}
+use Rattle.paper.specs.Answer.{Refusal, Answer, accepted, refused, Read, ◌leaving◌, Reader, onward, ◌>>=◌, give, refuse, judge}
 use Rattle.paper.specs.Bytes.{Bytes}
 use Rattle.paper.specs.Rewriting.{Layout, Message, rewriting, Rewritten, Demand3}
 use Rattle.paper.proofs.Choice.{never}

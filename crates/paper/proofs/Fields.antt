@@ -10,7 +10,7 @@ use lib.Dec.{leb, eqb}
 use lib.ListN.{length, get_or, take, drop, length-append, length-drop, take-append-drop}
 use lib.Seq.{take_at, take-append-le, drop_at, length-take-le}
 use Rattle.paper.specs.Choice.{pick}
-use Rattle.paper.specs.Answer.{Refusal, too_short, bad_width, unknown_mode, Answer, accepted, refused, ◌leaving◌, Reader, onward, ◌>>=◌, give, refuse, judge, hand_out}
+use Rattle.paper.specs.Answer.{Refusal, too_short, bad_width, unknown_mode, Answer, accepted, refused, ◌leaving◌, give, refuse, hand_out}
 use Rattle.paper.specs.Bytes.{Bytes, of_bytes, to_bytes}
 use Rattle.paper.specs.Utf8.{is_utf8}
 use Rattle.paper.specs.Sizes.{Fit, Holds}
@@ -18,7 +18,7 @@ use Rattle.paper.specs.Kind.{one_of, Kind, add_file, delete_file, replace_file, 
 use Rattle.paper.specs.Field.{part, byte, number, Headed, headed, counted, name, numbers, good_width, size_group, with_count, laid, sizes_at}
 use Rattle.paper.proofs.Bytes.{bytes_left, bytes-right, bytes_append, below_length, length_to_bytes, of_length, of_to, bytes-to_bytes}
 use Rattle.paper.proofs.Choice.{both_true, never}
-use Rattle.paper.proofs.Codec.{Wire, Reads, onward-is, reads_as, reads-give, reads-refuse, Given, reads_map, reads_kept, Kept, always}
+use Rattle.paper.proofs.Codec.{Wire, Reads, onward-is, reads_as, reads_map, reads_kept, Kept, always}
 
 -- ---- one byte
 pub record Byte (b : ℕ) (u : List ℕ) : Type 0 where

@@ -10,7 +10,6 @@ use lib.ListN.{length, replicate, length-append, length-map}
 use Rattle.paper.specs.Answer.{Refusal, too_many, Answer, accepted, refused, Read, ◌leaving◌, Reader, ◌>>=◌}
 use Rattle.paper.specs.Bytes.{Bytes}
 use Rattle.paper.specs.Field.{byte}
-use Rattle.paper.specs.Tally.{sum}
 use Rattle.paper.specs.Rewriting.{Rewritten, Demand3}
 use Rattle.paper.specs.Request.{Request, read_request, rewrite_request}
 use Rattle.paper.specs.Response.{Response, read_response, rewrite_response}

@@ -9,11 +9,11 @@ use mathlib.Core.Option.{some}
 use native.Mathlib.Nat.{mul-suc, not-suc-le-zero, le_of_suc-le-suc, ne_of_lt}
 use native.Mathlib.Omega.{arith}
 use lib.ListN.{length, get_or, get_elem?, drop, length-append, length-drop}
-use lib.Seq.{drop_at, drop-drop, drop-append-add}
+use lib.Seq.{drop_at, drop-drop}
 use lib.Dec.{leb, eqb}
 use borrow.Author.Tests.{leb-true, eqb-true, le-leb, lt-leb, eq-eqb, ne_eqb}
 use Rattle.paper.specs.Choice.{pick, both}
-use Rattle.paper.specs.Answer.{Answer, accepted, refused, too_short, cut, out_of_range, too_many, unknown_service, check}
+use Rattle.paper.specs.Answer.{accepted, refused, too_short, cut, out_of_range, too_many, unknown_service}
 use Rattle.paper.specs.Bytes.{Bytes}
 use Rattle.paper.specs.TroubleCode.{trouble_code}
 use Rattle.paper.specs.Joined.{Each}

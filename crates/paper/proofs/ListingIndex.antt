@@ -1,26 +1,26 @@
 -- Document 02, Req 09: what an index counts, and that a lookup finds the first record that has the code. Over lists of records, so that no sub-function is named.
 -- Assumes nothing.
 use mathlib.Core.Path.{◌≡◌, refl, sym, ap, ap₂, ◌∙◌}
-use Prim.Native.Nat.{ℕ, zero, suc, ◌+◌, ◌*◌, ◌-◌, ◌≤◌, ◌<◌}
+use Prim.Native.Nat.{ℕ, zero, suc, ◌+◌, ◌-◌, ◌≤◌, ◌<◌}
 use mathlib.Core.Bool.{Bool, true, false, true≢false}
 use mathlib.Core.List.{List, [], ◌∷◌, ◌++◌, map}
 use mathlib.Core.Logic.{◌↔◌}
-use mathlib.Core.Option.{Option, none, some}
-use native.Mathlib.Nat.{zero-add, add-zero, add-suc, suc-add, not-suc-le-zero, le_of_suc-le-suc}
+use mathlib.Core.Option.{some}
+use native.Mathlib.Nat.{zero-add, add-zero, suc-add, not-suc-le-zero, le_of_suc-le-suc}
 use native.Mathlib.Omega.{arith}
 use lib.ListN.{length, get_or, get_elem?, set, drop, replicate, length-drop}
 use lib.Dec.{eqb, ltb}
 use borrow.Author.Tests.{eqb-true, eqb-false, eq-eqb, ne_eqb, lt-ltb, ltb-true}
-use Rattle.paper.specs.Choice.{pick, both}
+use Rattle.paper.specs.Choice.{pick}
 use Rattle.paper.specs.Answer.{Refusal, accepted, refused, no_such_code, out_of_range}
 use Rattle.paper.specs.Bytes.{Bytes}
 use Rattle.paper.specs.TroubleCode.{TroubleCode, trouble_code}
 use Rattle.paper.specs.Tally.{count, sum}
 use Rattle.paper.specs.Listing.{SubFunction, by_status_mask, by_severity_mask, Listed, record_bytes, Listing, read_listing, records_bytes, listing_bytes}
-use Rattle.paper.specs.Listing.{first_place, has_high, how_many, first_with, numbers_from, Index, index_of, zero_index, same_numbers, own_index, has_code, Found, find, look_up, First, NoneHas}
+use Rattle.paper.specs.Listing.{first_place, has_high, how_many, first_with, numbers_from, Index, index_of, same_numbers, own_index, has_code, Found, find, look_up, First, NoneHas}
 use Rattle.paper.proofs.Choice.{both_true, never}
 use Rattle.paper.proofs.Bytes.{bytes-right}
-use Rattle.paper.proofs.Count.{one, count_append, count_le, split-count, from, one-equal, value_at, values_same, set_value, map_same}
+use Rattle.paper.proofs.Count.{one, count_append, count_le, split-count, from, one-equal, value_at, set_value, map_same}
 use Rattle.paper.proofs.Listing.{accepted-is}
 use Rattle.paper.proofs.InOrder.{nothing, there_below, drop_there}
 

@@ -3,7 +3,7 @@
 use mathlib.Core.Path.{◌≡◌, refl}
 use Prim.Native.Nat.{ℕ}
 use Prim.Native.String.{String}
-use mathlib.Core.List.{List, [], ◌∷◌, ◌++◌, map}
+use mathlib.Core.List.{List, [], ◌∷◌, map}
 use lib.ListN.{replicate}
 use Rattle.paper.specs.ReadingProgram.{decimal_in, decimal, ascii, text_of}
 use Rattle.paper.specs.Listing.{one_by_one, records_in, read_listing, records_bytes, listing_bytes, first_place, numbers_from}

@@ -3,7 +3,7 @@
 use mathlib.Core.Path.{◌≡◌, refl}
 use Prim.Native.Nat.{ℕ}
 use mathlib.Core.List.{List, [], ◌∷◌, ◌++◌, map}
-use mathlib.Core.Option.{Option, none, some}
+use mathlib.Core.Option.{none, some}
 use lib.ListN.{length, get_or, set, replicate}
 use Rattle.paper.specs.Answer.{refusal, Answer, accepted, refused, over, written}
 use Rattle.paper.specs.TroubleCode.{TroubleCode, trouble_code}

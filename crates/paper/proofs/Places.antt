@@ -8,12 +8,11 @@ use native.Mathlib.Nat.{zero-add, suc-add, pow-suc, pow-succ'}
 use native.Mathlib.Numerals.{add-one}
 use native.Mathlib.Omega.{arith}
 use borrow.Author.Tests.{le-leb, lt-leb}
-use lib.Dec.{leb}
 use lib.ListN.{length, get_or, take, drop, length-append, length-drop, drop_of_length-le, take-append-drop}
 use lib.Seq.{drop-cons, drop-drop, get_or-drop, length-take-le, take-nil, take-suc, take-take}
 use Rattle.paper.specs.Answer.{Refusal, too_short, bad_width, Answer, accepted, refused, Read, ◌leaving◌, Reader, onward, ◌>>=◌, give, refuse, judge}
 use Rattle.paper.specs.Bytes.{Bytes, of_bytes}
-use Rattle.paper.specs.Field.{part, byte, number, Headed, headed, counted, numbers, good_width, size_group}
+use Rattle.paper.specs.Field.{part, byte, number, headed, counted, numbers, good_width, size_group}
 use Rattle.paper.proofs.Bytes.{bytes_left, bytes-right, below_length}
 
 -- ---- one field after the other, with what is read on the right, as a contract has it

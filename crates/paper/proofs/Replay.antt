@@ -13,7 +13,7 @@ use lib.ListN.{length, take, drop, length-append}
 use lib.Seq.{length-take-le}
 use Rattle.paper.specs.Choice.{pick, both}
 use Rattle.paper.specs.Answer.{Refusal, cut, too_many, Answer, accepted, refused, check}
-use Rattle.paper.specs.Replay.{LogRecord, log_record, records_in, records_of, Service, opening, block, closing, unknown, service_of, none, counter, Transfer, closed, opened, State, state, start}
+use Rattle.paper.specs.Replay.{LogRecord, log_record, records_in, records_of, Service, opening, block, closing, unknown, service_of, none, counter, Transfer, closed, opened, State, start}
 use Rattle.paper.specs.Replay.{opens, next_counter, does, stepped, Ended, ran, stopped, after, run_from, replayed, state_in, go_on, accepted_of, history, is_block, is_new, is_again, keep, chosen, nothing_before, new_blocks, repeated_blocks, payloads, within64}
 
 -- ---- one step

@@ -4,7 +4,7 @@ use mathlib.Core.Path.{◌≡◌, refl}
 use Prim.Native.Nat.{ℕ, zero, suc, ◌/◌, ◌%◌}
 use Prim.Native.String.{String}
 use mathlib.Core.List.{List, [], ◌∷◌, map}
-use lib.ListN.{length, replicate}
+use lib.ListN.{replicate}
 use Rattle.paper.specs.Answer.{refusal}
 use Rattle.paper.specs.Replay.{log_record, records_in, none, counter, closed, opened, state, stepped, Ended, ran, stopped, run_from, replayed, history, chosen, new_blocks, repeated_blocks, payloads, stepped_once}
 use Rattle.paper.specs.ReadingProgram.{decimal_in, decimal, ascii, text_of}

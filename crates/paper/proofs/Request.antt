@@ -1,7 +1,7 @@
 -- File transfer requests: what is accepted is laid out as document 01 says and the other way round, demand 3, and the writer as the reader's inverse.
 -- Assumes nothing.
-use mathlib.Core.Path.{◌≡◌, refl, ap, ap₂, sym, subst, ◌∙◌}
-use Prim.Native.Nat.{ℕ, ◌+◌, ◌*◌, ◌-◌, ◌^◌, ◌≤◌, ◌<◌}
+use mathlib.Core.Path.{◌≡◌, refl, ap₂, sym, subst, ◌∙◌}
+use Prim.Native.Nat.{ℕ, ◌+◌, ◌-◌, ◌^◌, ◌≤◌, ◌<◌}
 use mathlib.Core.List.{List, [], ◌∷◌, ◌++◌, append_assoc}
 use mathlib.Core.Logic.{◌↔◌}
 use native.Mathlib.Omega.{arith}
@@ -11,7 +11,7 @@ use lib.ListN.{length, take, drop, replicate, length-append, length-replicate}
 use lib.Seq.{take_at}
 use Rattle.paper.specs.Answer.{accepted, refused, wrong_format, ◌leaving◌}
 use Rattle.paper.specs.Bytes.{Bytes, to_bytes}
-use Rattle.paper.specs.Sizes.{Fit, Holds, fit, first_fit, width}
+use Rattle.paper.specs.Sizes.{Holds, fit, first_fit, width}
 use Rattle.paper.specs.Utf8.{is_utf8}
 use Rattle.paper.specs.Kind.{Kind, add_file, delete_file, replace_file, read_file, read_dir, resume_file, mode_of}
 use Rattle.paper.specs.Field.{first_size, second_size, with_count, sizes_at}

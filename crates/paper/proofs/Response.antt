@@ -1,8 +1,8 @@
 -- File transfer responses: what is accepted is laid out as document 01 says and the other way round, demand 3, and the writer as the reader's inverse.
 -- Assumes nothing.
-use mathlib.Core.Path.{◌≡◌, refl, ap, ap₂, sym, subst, ◌∙◌}
-use Prim.Native.Nat.{ℕ, ◌+◌, ◌*◌, ◌-◌, ◌^◌, ◌≤◌, ◌<◌}
-use mathlib.Core.List.{List, [], ◌∷◌, ◌++◌}
+use mathlib.Core.Path.{◌≡◌, refl, ap, sym, subst, ◌∙◌}
+use Prim.Native.Nat.{ℕ, ◌+◌, ◌-◌, ◌^◌, ◌≤◌, ◌<◌}
+use mathlib.Core.List.{List, [], ◌∷◌}
 use mathlib.Core.Logic.{◌↔◌}
 use native.Mathlib.Omega.{arith}
 use borrow.Author.Tests.{le-leb, leb-true}
@@ -12,7 +12,7 @@ use Rattle.paper.specs.Answer.{accepted, wrong_format, ◌leaving◌}
 use Rattle.paper.specs.Bytes.{Bytes, to_bytes}
 use Rattle.paper.specs.Sizes.{Fit, Holds, fit, first_fit, width}
 use Rattle.paper.specs.Kind.{Kind, add_file, delete_file, replace_file, read_file, read_dir, resume_file, mode_of}
-use Rattle.paper.specs.Field.{first_size, second_size, with_count, sizes_at}
+use Rattle.paper.specs.Field.{first_size, second_size, with_count}
 use Rattle.paper.specs.Rewriting.{Layout, Message, Demand3}
 use Rattle.paper.specs.Response.{Response, response, AfterFormat, nothing, two_sizes, one_size, one_position, AfterMode, ended, block_and_format}
 use Rattle.paper.specs.Response.{after_mode, read_after_format, read_after_mode, read_response, sizes_of, response_sizes, write_after_format}

@@ -1,9 +1,9 @@
 -- Routine messages: what is accepted is laid out as document 01 says and the other way round, and what is written reads back.
 -- Assumes nothing.
-use mathlib.Core.Path.{◌≡◌, refl, ap, ap₂, sym, subst, ◌∙◌}
+use mathlib.Core.Path.{◌≡◌, refl, ap, sym, subst, ◌∙◌}
 use Prim.Native.Nat.{ℕ, ◌+◌, ◌%◌, ◌≤◌, ◌<◌}
 use mathlib.Core.Bool.{Bool, true, false}
-use mathlib.Core.List.{List, [], ◌∷◌, ◌++◌, append-nil}
+use mathlib.Core.List.{List, [], ◌∷◌}
 use mathlib.Core.Logic.{◌↔◌}
 use native.Mathlib.Omega.{arith}
 use borrow.Author.Tests.{leb-true, leb-false, le-leb, lt-leb}
@@ -13,7 +13,6 @@ use Rattle.paper.specs.Choice.{pick}
 use Rattle.paper.specs.Answer.{wrong_format, unknown_sub_function, accepted, refused, ◌leaving◌, Reader, onward, ◌>>=◌, give, hand_out}
 use Rattle.paper.specs.Bytes.{Bytes, of_bytes, to_bytes}
 use Rattle.paper.specs.Kind.{one_of}
-use Rattle.paper.specs.Field.{part}
 use Rattle.paper.specs.Rewriting.{WholeLayout, Message}
 use Rattle.paper.specs.RoutineControl.{SubFunction, start_routine, stop_routine, request_routine_results, byte_of, sub_functions, known_sub}
 use Rattle.paper.specs.RoutineControl.{RoutineRequest, RoutineResponse, RoutineBytes, routine_bytes, whole_rest, read_routine_request}

@@ -15,7 +15,7 @@ use Rattle.paper.specs.Answer.{Answer, accepted, refused, cut, out_of_range, too
 use Rattle.paper.specs.Utf8.{in_range}
 use Rattle.paper.specs.Tally.{Entry, entry_of, entries, whole_records, records, in_ranges, good, all_good, count, months, refusal_numbers, of_month, of_month_and_number, table, good_length, tallied, table_of, sum, plus, TablesRight}
 use Rattle.paper.proofs.Choice.{both_true, never, check_passed, then_passed}
-use Rattle.paper.proofs.Count.{one, count_append, all_pass_lem, count_perm, sum_zeros, split-count, from, one-equal, map_same, zip_values}
+use Rattle.paper.proofs.Count.{one, count_append, all_pass_lem, count_perm, sum_zeros, split-count, one-equal, map_same, zip_values}
 
 -- ---- the records, one by one
 length_entries : (n : ℕ) (s : List ℕ) → length (entries n s) ≡ n

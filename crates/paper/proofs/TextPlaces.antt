@@ -1,7 +1,7 @@
 -- Document 02, Req 12: a text is right, or 18 carries the first place at which something can't stand; and not both.
 -- Assumes nothing.
 use mathlib.Core.Path.{◌≡◌, refl, sym, ap, ◌∙◌}
-use Prim.Native.Nat.{ℕ, zero, suc, ◌≤◌, ◌<◌}
+use Prim.Native.Nat.{ℕ, suc, ◌≤◌, ◌<◌}
 use mathlib.Core.Bool.{Bool, true, false, not, true≢false}
 use mathlib.Core.List.{List}
 use mathlib.Core.Logic.{◌⊎◌, inl, inr, ⊎_elim}
@@ -11,7 +11,7 @@ use lib.ListN.{length, get_or}
 use lib.Dec.{eqb}
 use borrow.Author.Tests.{lt-ltb, le-ltb, eqb-false, eq-eqb, ne_eqb, not-false}
 use Rattle.paper.specs.Answer.{Refusal, Answer, accepted, refused, bad_character}
-use Rattle.paper.specs.CodeText.{Sort, can_stand, can_end, place_in, wrong_at, first_wrong, well_formed, InRow, FirstBad, NoneBad}
+use Rattle.paper.specs.CodeText.{Sort, can_stand, can_end, place_in, wrong_at, first_wrong, well_formed, FirstBad, NoneBad}
 use Rattle.paper.proofs.Choice.{never}
 use Rattle.paper.proofs.FirstPlace.{first-most, number-most, number-earlier, number-passes, number-none, number_is}
 use Rattle.paper.proofs.Spelling.{row_in, row_has}

@@ -1,8 +1,8 @@
 -- The width is the only freedom that a message has: the wider its sizes, the longer it is, so the smallest width gives the one shortest way.
 -- Assumes nothing.
 use mathlib.Core.Path.{◌≡◌, refl, ap, sym, ◌∙◌}
-use Prim.Native.Nat.{ℕ, suc, ◌+◌, ◌*◌, ◌≤◌, ◌<◌}
-use mathlib.Core.List.{List, [], ◌∷◌, ◌++◌}
+use Prim.Native.Nat.{ℕ, ◌+◌, ◌*◌, ◌≤◌}
+use mathlib.Core.List.{List, ◌∷◌, ◌++◌}
 use native.Mathlib.Nat.{mul-le-mul_left, eq_of_mul-eq-mul_left}
 use native.Mathlib.Omega.{arith}
 use lib.ListN.{length, length-append}

@@ -1,5 +1,5 @@
 -- Document 02, Req 11: what changed between two listings, either of them of sub-function 0x02 or 0x08. Availability masks aren't compared.
-use Rattle.std.specs.Prelude.{ℕ, zero, suc, ◌+◌, ◌<◌, ◌≡◌, Bool, List, [], ◌∷◌, ◌++◌, length, get_or, eqb, ltb}
+use Rattle.std.specs.Prelude.{ℕ, suc, ◌+◌, ◌<◌, ◌≡◌, Bool, List, [], ◌∷◌, ◌++◌, length, get_or, eqb, ltb}
 use Rattle.std.specs.Bool.{beq}
 use Rattle.std.proofs.Math.Option.{some}
 use Rattle.std.proofs.Math.ListN.{get_elem?}

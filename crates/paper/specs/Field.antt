@@ -6,7 +6,6 @@ use Rattle.paper.specs.Choice.{pick, both}
 use Rattle.paper.specs.Answer.{accepted, refused, too_short, wrong_format, bad_width, ◌leaving◌, Reader, onward, ◌>>=◌, give, judge}
 use Rattle.paper.specs.Bytes.{of_bytes, to_bytes}
 use Rattle.paper.specs.Utf8.{valid_up_to, is_utf8}
-use Rattle.paper.specs.Sizes.{width}
 
 -- ---- reading
 -- the first n bytes of the field, which must be there

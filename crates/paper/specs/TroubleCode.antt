@@ -1,7 +1,7 @@
 -- Document 01, "Trouble-code fields".
 use Rattle.std.specs.Prelude.{ℕ, zero, suc, ◌+◌, ◌*◌, ◌/◌, ◌%◌, ◌^◌, Bool, false, List, [], ◌∷◌, get_or, leb, eqb}
 use Rattle.paper.specs.Choice.{pick, both, either}
-use Rattle.paper.specs.Answer.{Answer, accepted, refused, no_trouble_code, check, Read, ◌leaving◌, Reader, ◌>>=◌, give}
+use Rattle.paper.specs.Answer.{Answer, accepted, refused, no_trouble_code, check, Read, Reader, ◌>>=◌, give}
 use Rattle.paper.specs.Field.{part, byte}
 
 -- ---- the record and its number

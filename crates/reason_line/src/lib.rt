@@ -1,4 +1,6 @@
 // What the program `why_refused` prints of a message, down to its text; what its argument names; and the room that it reads a message into.
+#![tactic(auto)]
+
 pub mod sort;
 pub mod text;
 

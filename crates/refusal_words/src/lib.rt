@@ -1,4 +1,6 @@
 // What a refusal means, in plain words: ASCII, at the start of lent room, with no zero byte behind them. The words are those of docs/REFUSALS.md.
+#![tactic(auto)]
+
 ghost use Rattle.wire.specs.Writing.{Wrote};
 ghost use Rattle.station.specs.Records.{WroteRecord};
 ghost use Rattle.refusal_words.specs.Words.{document02, among, meaning};

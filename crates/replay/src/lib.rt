@@ -1,4 +1,6 @@
 // A recorded transfer, run through the rules of document 02: one record at a time, or a whole log.
+#![tactic(auto)]
+
 ghost use Rattle.std.specs.Prelude.{◌≡◌, ◌+◌, ◌*◌, ◌≤◌, length, drop};
 ghost use Rattle.paper.specs.Replay.{record_of, records_in, start, opens, next_counter, is_repeat, opening, block, closing, block_in, stepped, run_from, replayed, within64};
 ghost use Rattle.replay.specs.Replay.{last_of, state_of, meant, step_said, ended_said, with_more, served};

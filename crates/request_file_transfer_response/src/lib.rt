@@ -1,4 +1,6 @@
 // File transfer responses, carried over from the original's src/services/request_file_transfer.rs.
+#![tactic(auto)]
+
 pub mod layout;
 pub mod read;
 pub mod rewrite;

@@ -7,7 +7,6 @@ use Rattle.wire.specs.declared.refusal.Refusal.{Refusal}
 use Rattle.routine_control.specs.declared.sub_function.RoutineControlSubFunction.{RoutineControlSubFunction}
 use Rattle.routine_control.specs.declared.sub_function.RoutineControlSubFunction.TheVariants.{StartRoutine, StopRoutine, RequestRoutineResults}
 use Rattle.routine_control.specs.declared.sub_function.SubFunctionAnswer.{SubFunctionAnswer}
-use Rattle.routine_control.specs.declared.sub_function.SuppressablePositiveResponse.{SuppressablePositiveResponse}
 use Rattle.routine_control.specs.declared.sub_function.SuppressableAnswer.{SuppressableAnswer}
 
 abbrev pub sub_of : RoutineControlSubFunction → SubFunction

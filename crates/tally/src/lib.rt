@@ -1,5 +1,7 @@
 // Wrong loads by month: the year's sheet of refusals, from records of 8 bytes without a header. Document 02 asks for it; the original has none.
 // A record is month, station, direction (0 request, 1 response), refusal number, and the coach number in four bytes.
+#![tactic(auto)]
+
 pub mod sheet;
 
 ghost use Rattle.std.specs.Prelude.{◌≡◌};

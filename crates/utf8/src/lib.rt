@@ -1,6 +1,8 @@
 // The name check: UTF-8 as RFC 3629 has it. What a long name begins with is judged in blocks of bytes (blocks.rt), which is the faster way;
 // what they leave, and a short name, is read character by character (characters.rt), each by the class of its lead byte: lead_bytes.rt has them
 // all in one table, and is the file to read first.
+#![tactic(auto)]
+
 mod blocks;
 pub mod by_ranges;
 mod by_table;

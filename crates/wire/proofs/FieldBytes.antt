@@ -19,7 +19,7 @@ use Rattle.paper.specs.Field.{with_count, laid, sizes_at}
 use Rattle.paper.proofs.Bytes.{pow_pos, length_to_bytes}
 use Rattle.paper.proofs.Sizes.{smallest_is}
 use Rattle.paper.proofs.Width.{length_sizes_at}
-use Rattle.wire.specs.Prefix.{prefix_len, prefix_most}
+use Rattle.wire.specs.Prefix.{prefix_most}
 use Rattle.wire.specs.Writing.{counted_run, sizes_out}
 use Rattle.wire.specs.declared.prefix.Prefix.{Prefix}
 use Rattle.wire.specs.declared.prefix.Prefix.TheVariants.{One, Two}

@@ -1,5 +1,7 @@
 // What messages are made of. A field is read at a place of the message, and its answer says where the next one begins;
 // a field is written at the start of the room that is lent for it. Every call is total: what it cannot do it refuses.
+#![tactic(auto)]
+
 pub mod available;
 pub mod group;
 pub mod number;

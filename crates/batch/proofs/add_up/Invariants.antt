@@ -1,11 +1,8 @@
 -- `batch::add_up` meets its contract: the total is the sum of the lengths so far, each of them below 2^32, so that 4,096 of them stay below 2^44.
-use mathlib.Core.Path.{◌≡◌, refl}
-use Prim.Native.Nat.{◌+◌, ◌*◌, ◌-◌, ◌≤◌, ◌<◌}
-use native.Mathlib.Omega.{arith}
-use borrow.Author.Rules.{rules}
+use mathlib.Core.Path.{◌≡◌}
+use Prim.Native.Nat.{◌*◌, ◌-◌, ◌≤◌}
 use lib.ListN.{length, take}
 use Rattle.paper.specs.Tally.{sum}
-use Rattle.batch.proofs.Turns.{one_more_lem, all_of}
 use Rattle.batch.proofs.add_up.Given as goal
 
 abbrev pub invariant-loop-k : goal.invariant-loop-k

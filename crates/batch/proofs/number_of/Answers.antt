@@ -1,7 +1,6 @@
 -- `batch::number_of` meets its contract: what the reader answers is the paper's, and its number fits a byte.
-use mathlib.Core.Path.{◌≡◌, subst, ◌∙◌}
+use mathlib.Core.Path.{subst, ◌∙◌}
 use native.Mathlib.Omega.{arith}
-use borrow.Author.Rules.{rules}
 use Rattle.request_file_transfer.specs.Reading.{RequestRight}
 use Rattle.batch.proofs.Numbers.{number_read_lem, number_small}
 use Rattle.batch.proofs.number_of.Goals as goal

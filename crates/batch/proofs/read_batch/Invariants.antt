@@ -1,13 +1,10 @@
 -- `batch::read_batch` meets its contract: after k turns the list has the numbers of the first k messages over its front, and the next message begins where their lengths,
 -- added up, end.
-use mathlib.Core.Path.{◌≡◌, refl, ◌∙◌}
-use Prim.Native.Nat.{ℕ, ◌+◌, ◌-◌, ◌≤◌}
-use mathlib.Core.List.{List}
-use native.Mathlib.Omega.{arith}
-use borrow.Author.Rules.{rules}
-use lib.ListN.{length, get_or, take}
+use mathlib.Core.Path.{◌≡◌}
+use Prim.Native.Nat.{◌-◌, ◌≤◌}
+use lib.ListN.{length, take}
 use Rattle.paper.specs.Tally.{sum}
-use Rattle.batch.proofs.Turns.{one_more_lem, within, SoFar, none_yet, entry_more, as_long, too_many_lem, not_adding_up, no_room_lem, all_read}
+use Rattle.batch.proofs.Turns.{SoFar}
 use Rattle.batch.proofs.read_batch.Given as goal
 
 abbrev pub invariant-loop-k : goal.invariant-loop-k

@@ -1,7 +1,6 @@
 -- `desk_check::equal` meets its contract: what the order says of the two values.
 use mathlib.Core.Path.{sym, ap, ◌∙◌}
 use native.Mathlib.Nat.{ne_of_lt, ne_of_gt}
-use borrow.Author.Rules.{rules}
 use borrow.Author.Tests.{eq-eqb, ne_eqb}
 use Rattle.wire.specs.Size.{order_of}
 use Rattle.wire.specs.declared.size.Order.TheVariants.{Less, Equal, Greater}

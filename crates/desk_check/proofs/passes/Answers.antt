@@ -1,6 +1,5 @@
 -- `desk_check::passes` meets its contract: the kind's row of the table, and then the format byte, decide which case of the rule it is.
 use mathlib.Core.Path.{refl, sym, ap, ◌∙◌}
-use borrow.Author.Rules.{rules}
 use borrow.Author.Tests.{eq-eqb, ne_eqb}
 use Rattle.request_file_transfer.specs.Layout.{layout_of}
 use Rattle.desk_check.proofs.passes.Goals as goal

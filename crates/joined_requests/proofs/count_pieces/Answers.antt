@@ -3,10 +3,9 @@
 use mathlib.Core.Path.{subst}
 use Prim.Native.Nat.{◌-◌}
 use native.Mathlib.Omega.{arith}
-use borrow.Author.Rules.{rules}
-use lib.ListN.{length, drop, length-drop}
+use lib.ListN.{drop, length-drop}
 use Rattle.joined_requests.specs.Split.{HasLength, PieceRight}
-use Rattle.joined_requests.proofs.Pieces.{Walk, walk_begins, walk_on, counted-all, counted-most, counted-refused}
+use Rattle.joined_requests.proofs.Pieces.{walk_begins, walk_on, counted-all, counted-most, counted-refused}
 use Rattle.joined_requests.proofs.count_pieces.Goals as goal
 
 pub loop-at-init : goal.loop-at-init

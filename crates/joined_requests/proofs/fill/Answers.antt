@@ -3,10 +3,9 @@
 use mathlib.Core.Path.{subst}
 use Prim.Native.Nat.{◌-◌}
 use native.Mathlib.Omega.{arith}
-use borrow.Author.Rules.{rules}
-use lib.ListN.{length, drop, length-drop}
+use lib.ListN.{drop, length-drop}
 use Rattle.joined_requests.specs.Split.{HasLength, PieceRight}
-use Rattle.joined_requests.proofs.Fills.{Filling, fill_begins, fill_ends, fill_never, fill_place, fill_on}
+use Rattle.joined_requests.proofs.Fills.{fill_begins, fill_ends, fill_never, fill_place, fill_on}
 use Rattle.joined_requests.proofs.fill.Goals as goal
 
 pub loop-start-init : goal.loop-start-init

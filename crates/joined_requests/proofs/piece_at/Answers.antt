@@ -1,6 +1,5 @@
 -- `joined_requests::piece_at` meets its contract: the reader's answer to what begins there.
 use mathlib.Core.Path.{subst}
-use borrow.Author.Rules.{rules}
 use Rattle.paper.proofs.Places.{bytes_of}
 use Rattle.request_file_transfer.specs.Reading.{RequestRight}
 use Rattle.joined_requests.proofs.Pieces.{piece_found, piece_refused}

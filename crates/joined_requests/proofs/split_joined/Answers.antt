@@ -1,8 +1,5 @@
 -- `joined_requests::split_joined` meets its contract: the first pass is refused, the list is too short, or the second pass fills it.
 use mathlib.Core.Path.{sym, subst}
-use mathlib.Core.List.{List}
-use Prim.Native.Nat.{ℕ}
-use borrow.Author.Rules.{rules}
 use Rattle.joined_requests.specs.Split.{Counted, Split}
 use Rattle.joined_requests.specs.declared.SplitAnswer.{SplitAnswer}
 use Rattle.joined_requests.proofs.Splits.{split-refused, split-short, split-fits, split-filled}

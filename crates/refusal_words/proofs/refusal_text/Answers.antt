@@ -1,5 +1,4 @@
 -- `refusal_words::refusal_text` meets its contract: the words of each number, letter by letter, and the other numbers are looked for in document 02.
-use borrow.Author.Rules.{rules}
 use Rattle.wire.proofs.Writes.{passed}
 use Rattle.paper.specs.Kind.{one_of}
 use Rattle.refusal_words.specs.Words.{document01, document02, among, meaning}

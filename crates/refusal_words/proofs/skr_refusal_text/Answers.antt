@@ -1,6 +1,5 @@
 -- `refusal_words::skr_refusal_text` meets its contract: the words were written, and the answer is handed out flat.
 use mathlib.Core.Path.{refl}
-use borrow.Author.Rules.{rules}
 use Rattle.station.proofs.Written.{wrote_known}
 use Rattle.refusal_words.proofs.skr_refusal_text.Goals as goal
 

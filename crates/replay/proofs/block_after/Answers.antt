@@ -1,5 +1,5 @@
 -- `replay::block_after` meets its contract: a repeat, a new block, a wrong counter.
-use Rattle.std.proofs.Common.{sym, ◌∙◌, rules}
+use Rattle.std.proofs.Common.{sym, ◌∙◌}
 use Rattle.replay.proofs.Steps.{repeated, new_block, wrong-block}
 use Rattle.replay.proofs.block_after.Goals as goal
 

@@ -1,6 +1,6 @@
 -- `replay::blocks_from` meets its contract: each block that it passes goes on with the run, and where it ends, the run has come so far.
-use Rattle.std.proofs.Common.{◌-◌, ◌≤◌, ◌∙◌, subst, ⊎_elim, arith, rules}
-use Rattle.replay.specs.Run.{open_at, Running}
+use Rattle.std.proofs.Common.{◌-◌, ◌∙◌, subst, arith}
+use Rattle.replay.specs.Run.{Running}
 use Rattle.replay.specs.declared.State.{State}
 use Rattle.replay.proofs.Blocks.{as_open, again, new}
 use Rattle.replay.proofs.blocks_from.Goals.{then-counter-last, else-counter-last+else-counter-next_counter}
@@ -28,9 +28,9 @@ loop-k-preserved c =
     let r = c.record_at-record in (
       omega (arith, x.invariant.0),
       elim c.if-counter-last.branch [
-          then-counter-last w ↦ rw (w.last-is, w.repeats-is, w.total-is) (again c.args.log.now c.args.n x.k x.last x.repeats x.total r.result x.invariant.1 c.loop-k-test.true c.requires.1 r.ensures.0 r.ensures.1 c.if-record-ne54.false w.if-counter-last.true)
+        | then-counter-last w ↦ rw (w.last-is, w.repeats-is, w.total-is) (again c.args.log.now c.args.n x.k x.last x.repeats x.total r.result x.invariant.1 c.loop-k-test.true c.requires.1 r.ensures.0 r.ensures.1 c.if-record-ne54.false w.if-counter-last.true)
         | else-counter-last+else-counter-next_counter w ↦ rw (w.last-is, w.repeats-is, w.total-is) (new c.args.log.now c.args.n x.k x.last x.repeats x.total r.result x.invariant.1 c.loop-k-test.true c.requires.1 r.ensures.0 r.ensures.1 c.if-record-ne54.false w.if-counter-last.false (w.if-counter-next_counter.false ∙ w.next_counter.ensures))
-        ],
+      ],
     )
 
 pub returns : goal.returns

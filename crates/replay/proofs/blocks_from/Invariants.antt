@@ -1,8 +1,6 @@
 -- `replay::blocks_from` meets its contract: each block that it passes goes on with the run, and where it ends, the run has come so far.
-use Rattle.std.proofs.Common.{◌-◌, ◌≤◌, ◌∙◌, subst, ⊎_elim, arith, rules}
+use Rattle.std.proofs.Common.{◌-◌, ◌≤◌}
 use Rattle.replay.specs.Run.{open_at, Running}
-use Rattle.replay.specs.declared.State.{State}
-use Rattle.replay.proofs.Blocks.{as_open, again, new}
 use Rattle.replay.proofs.blocks_from.Given as goal
 
 abbrev pub invariant-loop-k : goal.invariant-loop-k

@@ -1,5 +1,5 @@
 -- `replay::close` meets its contract: each of the two states.
-use Rattle.std.proofs.Common.{◌∙◌, rules}
+use Rattle.std.proofs.Common.{◌∙◌}
 use Rattle.replay.proofs.Steps.{no_closing, closed_now}
 use Rattle.replay.proofs.close.Goals as goal
 

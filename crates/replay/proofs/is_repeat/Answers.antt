@@ -1,5 +1,4 @@
 -- `replay::is_repeat` meets its contract: each case of the last counter.
-use Rattle.std.proofs.Common.{rules}
 use Rattle.replay.proofs.is_repeat.Goals as goal
 
 pub returns-in-Counter : goal.returns-in-Counter

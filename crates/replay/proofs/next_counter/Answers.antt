@@ -1,5 +1,4 @@
 -- `replay::next_counter` meets its contract: each case of the last counter.
-use Rattle.std.proofs.Common.{rules}
 use Rattle.replay.proofs.next_counter.Goals as goal
 
 pub returns-in-Counter : goal.returns-in-Counter

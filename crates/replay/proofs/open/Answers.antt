@@ -1,5 +1,5 @@
 -- `replay::open` meets its contract: each of the two states, and the kind.
-use Rattle.std.proofs.Common.{sym, ◌∙◌, rules}
+use Rattle.std.proofs.Common.{sym, ◌∙◌}
 use Rattle.replay.proofs.Steps.{opened_now, wrong-kind, already_open}
 use Rattle.replay.proofs.open.Goals as goal
 

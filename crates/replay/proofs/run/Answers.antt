@@ -1,5 +1,5 @@
 -- `replay::run` meets its contract: too many records, a cut one, or the run.
-use Rattle.std.proofs.Common.{◌∙◌, rules}
+use Rattle.std.proofs.Common.{◌∙◌}
 use Rattle.replay.proofs.Runs.{too_many_lem, cut_log, whole_log}
 use Rattle.replay.proofs.run.Goals as goal
 

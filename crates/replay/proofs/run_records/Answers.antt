@@ -1,7 +1,6 @@
 -- `replay::run_records` meets its contract. The loop's invariant: the records so far led to the state, and what is left leads where all of them do.
-use Rattle.std.proofs.Common.{◌-◌, sym, ap, ◌∙◌, rules}
+use Rattle.std.proofs.Common.{◌-◌, sym, ap, ◌∙◌}
 use Rattle.replay.specs.Replay.{step_said}
-use Rattle.replay.specs.Run.{Running}
 use Rattle.replay.proofs.Runs.{begins, goes_on_lem, stops, ends}
 use Rattle.replay.proofs.run_records.Goals as goal
 

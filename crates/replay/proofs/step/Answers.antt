@@ -1,5 +1,5 @@
 -- `replay::step` meets its contract: each of the services, and none.
-use Rattle.std.proofs.Common.{◌∙◌, rules}
+use Rattle.std.proofs.Common.{◌∙◌}
 use Rattle.replay.proofs.Steps.{by_opening, by_block, by_closing, by_none}
 use Rattle.replay.proofs.step.Goals as goal
 

@@ -1,5 +1,5 @@
 -- `replay::take_block` meets its contract: each of the two states.
-use Rattle.std.proofs.Common.{◌∙◌, rules}
+use Rattle.std.proofs.Common.{◌∙◌}
 use Rattle.replay.proofs.Steps.{no_block, block_there}
 use Rattle.replay.proofs.take_block.Goals as goal
 

@@ -1,5 +1,5 @@
 -- `replay::with_more` meets its contract: both sums fit, or one of them does not.
-use Rattle.std.proofs.Common.{arith, rules}
+use Rattle.std.proofs.Common.{arith}
 use Rattle.replay.proofs.Steps.{fits, too_many_lem, too_long_lem}
 use Rattle.replay.proofs.with_more.Goals as goal
 

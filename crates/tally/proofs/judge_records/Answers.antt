@@ -1,14 +1,13 @@
 -- `tally::judge_records` meets its contract: the length first, then every record; up to place k all are good, so that the judgement of the others is that of all.
 use mathlib.Core.Path.{◌≡◌, refl, sym, ap, ◌∙◌}
-use Prim.Native.Nat.{ℕ, ◌-◌, ◌≤◌}
+use Prim.Native.Nat.{ℕ, ◌-◌}
 use mathlib.Core.List.{List}
 use borrow.Author.Rules.{rules}
-use borrow.Author.Tests.{not-true, not-false}
 use lib.ListN.{length}
 use Rattle.paper.specs.Answer.{accepted}
 use Rattle.paper.specs.Tally.{good_length, verdict}
 use Rattle.tally.specs.Judged.{judged}
-use Rattle.tally.proofs.Turns.{GoodSoFar, good_turn, bad_turn, no-more, length_refused, record_refused, counted}
+use Rattle.tally.proofs.Turns.{good_turn, bad_turn, no-more, length_refused, record_refused, counted}
 use Rattle.tally.proofs.judge_records.Goals as goal
 
 pub returns-in_default : goal.returns-in_default

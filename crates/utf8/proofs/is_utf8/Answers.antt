@@ -1,5 +1,4 @@
 -- `is_utf8` meets its contract: on either way, the longest beginning has all the bytes exactly if the paper's test says yes.
-use borrow.Author.Rules.{rules}
 use Rattle.paper.proofs.Utf8.{whole_is}
 use Rattle.utf8.proofs.is_utf8.Goals as goal
 

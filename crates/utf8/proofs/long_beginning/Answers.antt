@@ -1,5 +1,4 @@
 -- `long_beginning` meets its contract: the longest beginning may be looked for from any valid one on.
-use borrow.Author.Rules.{rules}
 use Rattle.utf8.proofs.Longest.{longest_on}
 use Rattle.utf8.proofs.long_beginning.Goals as goal
 

@@ -4,7 +4,6 @@ use Rattle.wire.specs.Writing.{told}
 use Rattle.wire.specs.declared.write.WriteAnswer.{WriteAnswer}
 use Rattle.archive.specs.Batches.{batch_record}
 use Rattle.station.specs.declared.records.DeskRecord.{DeskRecord}
-use borrow.Author.Rules.{rules}
 use Rattle.archive.proofs.batches.flat_batch.Goals as goal
 
 abbrev flat : WriteAnswer → DeskRecord

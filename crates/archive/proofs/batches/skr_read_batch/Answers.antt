@@ -2,7 +2,6 @@
 use mathlib.Core.Path.{ap, ◌∙◌}
 use Rattle.paper.specs.Batch.{read_batch}
 use Rattle.archive.specs.Batches.{batch_record}
-use borrow.Author.Rules.{rules}
 use Rattle.archive.proofs.batches.skr_read_batch.Goals as goal
 
 pub returns : goal.returns

@@ -1,6 +1,5 @@
 -- `archive::joined::flat_split` meets its contract: each arm is the definition's.
 use mathlib.Core.Path.{sym, ap}
-use borrow.Author.Rules.{rules}
 use Rattle.joined_requests.specs.Split.{answered, found_in}
 use Rattle.joined_requests.specs.declared.SplitAnswer.{SplitAnswer}
 use Rattle.archive.specs.Joined.{split_record}

@@ -1,6 +1,5 @@
 -- `archive::joined::skr_split_joined` meets its contract: the flat form of what was answered, and the list as it was left.
 use mathlib.Core.Path.{ap₂, ◌∙◌}
-use borrow.Author.Rules.{rules}
 use Rattle.archive.specs.Joined.{split_record}
 use Rattle.archive.proofs.joined.skr_split_joined.Goals as goal
 

@@ -1,6 +1,5 @@
 -- `archive::messages::flat_message` meets its contract: each arm is the definition's.
 use mathlib.Core.Path.{sym, ap, ◌∙◌}
-use borrow.Author.Rules.{rules}
 use Rattle.archive.specs.Messages.{of_transfer, of_routine, flat_message}
 use Rattle.station.specs.declared.records.FileTransferRecord.{FileTransferRecord}
 use Rattle.station.specs.declared.records.RoutineRecord.{RoutineRecord}

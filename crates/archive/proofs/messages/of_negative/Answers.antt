@@ -1,6 +1,5 @@
 -- `archive::messages::of_negative` meets its contract: the byte of the service, the code and the mark in their numbers.
 use mathlib.Core.Path.{◌∙◌}
-use borrow.Author.Rules.{rules}
 use Rattle.archive.proofs.messages.of_negative.Goals as goal
 
 pub returns : goal.returns

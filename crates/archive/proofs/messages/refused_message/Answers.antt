@@ -1,6 +1,5 @@
 -- `archive::messages::refused_message` meets its contract: the refusal's three numbers.
 use mathlib.Core.Path.{◌∙◌}
-use borrow.Author.Rules.{rules}
 use Rattle.archive.proofs.messages.refused_message.Goals as goal
 
 pub returns : goal.returns

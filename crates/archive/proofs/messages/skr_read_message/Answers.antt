@@ -1,6 +1,5 @@
 -- `archive::messages::skr_read_message` meets its contract: what was read is right, so its flat form is that of the paper's answer.
 use mathlib.Core.Path.{◌∙◌}
-use borrow.Author.Rules.{rules}
 use Rattle.archive.proofs.Whole.{message_flat}
 use Rattle.archive.proofs.messages.skr_read_message.Goals as goal
 

@@ -1,6 +1,5 @@
 -- `archive::messages::skr_write_negative` meets its contract: what the writer did, in its flat form.
 use mathlib.Core.Path.{refl}
-use borrow.Author.Rules.{rules}
 use Rattle.station.proofs.Written.{wrote_known}
 use Rattle.archive.proofs.messages.skr_write_negative.Goals as goal
 

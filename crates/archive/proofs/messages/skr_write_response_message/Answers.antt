@@ -4,7 +4,6 @@ use Rattle.paper.specs.WholeMessage.{file_response, led}
 use Rattle.wire.proofs.Left.{left-answer}
 use Rattle.file_operation.specs.Mode.{mode_said, mode_refusal}
 use Rattle.file_operation.specs.declared.mode.ModeAnswer.{ModeAnswer}
-use borrow.Author.Rules.{rules}
 use Rattle.station.proofs.Written.{wrote_known, not_known}
 use Rattle.station.proofs.Transfers.{response-known, response-unknown}
 use Rattle.archive.proofs.messages.skr_write_response_message.Goals as goal

@@ -6,7 +6,6 @@ use Rattle.routine_control.specs.declared.sub_function.SubFunctionAnswer.{SubFun
 use Rattle.wire.proofs.Left.{left-answer}
 use Rattle.station.proofs.Written.{wrote_known, not_known}
 use Rattle.station.proofs.Routines.{request-handed}
-use borrow.Author.Rules.{rules}
 use Rattle.archive.proofs.messages.skr_write_routine_request_message.Goals as goal
 
 pub returns-in_default : goal.returns-in_default

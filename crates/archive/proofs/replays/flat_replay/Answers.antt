@@ -1,6 +1,5 @@
 -- `archive::replays::flat_replay` meets its contract: each arm is the definition's.
 use mathlib.Core.Path.{sym, ap, ◌∙◌}
-use borrow.Author.Rules.{rules}
 use Rattle.replay.specs.Replay.{ended_said}
 use Rattle.replay.specs.declared.ReplayAnswer.{ReplayAnswer}
 use Rattle.archive.specs.Replays.{replay_record}

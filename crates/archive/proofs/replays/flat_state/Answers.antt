@@ -1,5 +1,4 @@
 -- `archive::replays::flat_state` meets its contract: each field is what is asked of the state.
-use borrow.Author.Rules.{rules}
 use Rattle.archive.proofs.replays.flat_state.Goals as goal
 
 pub returns : goal.returns

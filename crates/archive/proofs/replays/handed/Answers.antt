@@ -1,5 +1,4 @@
 -- `archive::replays::handed` meets its contract: closed; or open, with the counter or without.
-use borrow.Author.Tests.{not-true, not-false}
 use Rattle.archive.proofs.replays.handed.Goals as goal
 
 pub returns-then-not-open : goal.returns-then-not-open

@@ -1,6 +1,5 @@
 -- `archive::replays::skr_replay_log` meets its contract: the flat form of what the run answers.
 use mathlib.Core.Path.{ap, ◌∙◌}
-use borrow.Author.Rules.{rules}
 use Rattle.archive.specs.Replays.{replay_record}
 use Rattle.archive.proofs.replays.skr_replay_log.Goals as goal
 

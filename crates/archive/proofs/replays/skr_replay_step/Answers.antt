@@ -1,6 +1,5 @@
 -- `archive::replays::skr_replay_step` meets its contract: the flat form of what the step answers, beside the state that was handed over.
 use mathlib.Core.Path.{sym, ap, ◌∙◌}
-use borrow.Author.Rules.{rules}
 use Rattle.replay.specs.Replay.{step_said}
 use Rattle.archive.specs.Replays.{replay_record}
 use Rattle.archive.proofs.Stepped.{once_accepted, once_refused}

@@ -1,6 +1,5 @@
 -- `archive::sheet::flat_sheet` meets its contract: each arm is the definition's.
 use mathlib.Core.Path.{sym, ap}
-use borrow.Author.Rules.{rules}
 use Rattle.tally.specs.declared.Tallied.{Tallied}
 use Rattle.archive.specs.Sheets.{flat_verdict}
 use Rattle.archive.proofs.sheet.flat_sheet.Goals as goal

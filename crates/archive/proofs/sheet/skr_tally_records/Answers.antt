@@ -1,7 +1,6 @@
 -- `archive::sheet::skr_tally_records` meets its contract: the sheet, in its flat form, is the paper's.
 use mathlib.Core.Path.{◌∙◌}
 use Rattle.archive.proofs.Sheets.{sheet_flat}
-use borrow.Author.Rules.{rules}
 use Rattle.archive.proofs.sheet.skr_tally_records.Goals as goal
 
 pub returns : goal.returns

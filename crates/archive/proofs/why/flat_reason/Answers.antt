@@ -1,6 +1,5 @@
 -- `archive::why::flat_reason` meets its contract: each field is what its callee answers.
 use mathlib.Core.Path.{ap, ◌∙◌}
-use borrow.Author.Rules.{rules}
 use Rattle.archive.specs.Why.{field_number}
 use Rattle.archive.proofs.why.flat_reason.Goals as goal
 

@@ -1,6 +1,5 @@
 -- `archive::why::flat_why` meets its contract: each arm is the definition's.
 use mathlib.Core.Path.{sym, ap}
-use borrow.Author.Rules.{rules}
 use Rattle.reason.specs.Reason.{why_said}
 use Rattle.reason.specs.declared.reason.ReasonAnswer.{ReasonAnswer}
 use Rattle.archive.specs.Why.{why_record}

@@ -1,6 +1,5 @@
 -- `archive::why::skr_why_response` meets its contract: the flat form of the reason.
 use mathlib.Core.Path.{ap, ◌∙◌}
-use borrow.Author.Rules.{rules}
 use Rattle.archive.specs.Why.{why_record}
 use Rattle.archive.proofs.why.skr_why_response.Goals as goal
 

@@ -2,7 +2,6 @@
 use mathlib.Core.Path.{sym, ap}
 use Rattle.wire.specs.declared.write.WriteAnswer.{WriteAnswer}
 use Rattle.file_operation.specs.Rewriting.{beside_tail}
-use borrow.Author.Rules.{rules}
 use Rattle.file_operation.proofs.rewrite.beside_tail.Goals as goal
 
 pub returns-in-Accepted : goal.returns-in-Accepted

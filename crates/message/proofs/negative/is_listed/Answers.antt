@@ -1,6 +1,5 @@
 -- `message::negative::is_listed` meets its contract: each service has its own list.
 use mathlib.Core.Path.{ap, ◌∙◌}
-use borrow.Author.Rules.{rules}
 use Rattle.paper.specs.WholeMessage.{stands}
 use Rattle.message.proofs.negative.is_listed.Goals as goal
 

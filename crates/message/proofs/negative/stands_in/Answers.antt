@@ -1,10 +1,8 @@
 -- `message::negative::stands_in` meets its contract. The invariant: what the rest of the list says is what the whole list says. The measure is the length of that rest.
-use Prim.Native.Nat.{◌-◌, ◌≤◌}
-use mathlib.Core.Path.{◌≡◌, refl, ◌∙◌}
+use Prim.Native.Nat.{◌-◌}
+use mathlib.Core.Path.{refl, ◌∙◌}
 use native.Mathlib.Numerals.{add-one}
 use borrow.Author.Rules.{rules}
-use lib.ListN.{length, drop}
-use Rattle.paper.specs.WholeMessage.{stands}
 use Rattle.message.proofs.Codes.{stands_here, stands_on, stands_end}
 use Rattle.message.proofs.negative.stands_in.Goals as goal
 

@@ -1,7 +1,6 @@
 -- `message::negative::write_negative` meets its contract: the service is judged, then the room, and then the three bytes are put.
 use mathlib.Core.Path.{refl}
 use native.Mathlib.Omega.{arith}
-use borrow.Author.Rules.{rules}
 use Rattle.wire.proofs.Left.{left-answer}
 use Rattle.wire.proofs.Writes.{refuses, malformed, passed}
 use Rattle.message.specs.Service.{service_said, service_refusal}

@@ -1,5 +1,4 @@
 -- `message::read::after_service` meets its contract: each sort has its own reader.
-use borrow.Author.Rules.{rules}
 use Rattle.message.proofs.read.after_service.Goals as goal
 
 pub returns-in-FileRequest : goal.returns-in-FileRequest

@@ -1,5 +1,4 @@
 -- `message::read::block_on` meets its contract: the empty place at 0 stays, and any other goes one byte on.
-use borrow.Author.Rules.{rules}
 use borrow.Author.Tests.{eq-eqb, ne_eqb}
 use Rattle.message.proofs.read.block_on.Goals as goal
 

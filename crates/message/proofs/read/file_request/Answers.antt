@@ -1,7 +1,6 @@
 -- `message::read::file_request` meets its contract: what the reader of requests says of the rest, each place one byte on.
 use mathlib.Core.Path.{subst}
 use native.Mathlib.Omega.{arith}
-use borrow.Author.Rules.{rules}
 use lib.ListN.{length-drop}
 use Rattle.request_file_transfer.specs.Reading.{RequestRight}
 use Rattle.message.proofs.Behind.{lent_is, request-on, request_off}

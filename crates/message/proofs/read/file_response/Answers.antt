@@ -1,7 +1,6 @@
 -- `message::read::file_response` meets its contract: what the sort's own reader says of the rest, each place one byte on.
 use mathlib.Core.Path.{subst}
 use native.Mathlib.Omega.{arith}
-use borrow.Author.Rules.{rules}
 use lib.ListN.{length-drop}
 use Rattle.paper.proofs.Places.{bytes_of}
 use Rattle.paper.specs.Response.{after_mode}

@@ -1,7 +1,6 @@
 -- `message::read::negative` meets its contract: its length is judged first, then the service that is answered, and its code is marked.
 use mathlib.Core.Path.{refl}
 use native.Mathlib.Omega.{arith}
-use borrow.Author.Rules.{rules}
 use Rattle.wire.proofs.Left.{left-answer}
 use Rattle.message.specs.Service.{service_said, service_refusal}
 use Rattle.message.specs.declared.service.ServiceAnswer.{ServiceAnswer}

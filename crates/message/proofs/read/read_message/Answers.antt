@@ -2,7 +2,6 @@
 use mathlib.Core.Path.{refl, sym, ap, subst}
 use Prim.Native.Nat.{ℕ}
 use native.Mathlib.Omega.{arith}
-use borrow.Author.Rules.{rules}
 use lib.ListN.{drop}
 use Rattle.wire.specs.Number.{seen_byte, ByteRight}
 use Rattle.wire.proofs.Left.{left, left-answer}

@@ -1,5 +1,4 @@
 -- `message::read::request_on` meets its contract: the record as it is, but for its place.
-use borrow.Author.Rules.{rules}
 use Rattle.message.proofs.read.request_on.Goals as goal
 
 pub returns : goal.returns

@@ -1,7 +1,6 @@
 -- `message::read::routine_request` meets its contract: what the sort's own reader says of the rest, each place one byte on.
 use mathlib.Core.Path.{subst}
 use native.Mathlib.Omega.{arith}
-use borrow.Author.Rules.{rules}
 use Rattle.routine_control.specs.Request.{RoutineRequestRight}
 use Rattle.message.proofs.Behind.{routine-request-on, routine_request_off}
 use Rattle.message.proofs.read.routine_request.Goals as goal

@@ -1,7 +1,6 @@
 -- `message::read::routine_response` meets its contract: what the sort's own reader says of the rest, each place one byte on.
 use mathlib.Core.Path.{subst}
 use native.Mathlib.Omega.{arith}
-use borrow.Author.Rules.{rules}
 use Rattle.routine_control.specs.Response.{RoutineResponseRight}
 use Rattle.message.proofs.Behind.{routine-response-on, routine_response_off}
 use Rattle.message.proofs.read.routine_response.Goals as goal

@@ -1,7 +1,6 @@
 -- `message::write::put_service` meets its contract: where the rest was written the byte is put, else nothing is and 7 is counted on.
 use mathlib.Core.Path.{refl, ap}
 use native.Mathlib.Omega.{arith}
-use borrow.Author.Rules.{rules}
 use Rattle.paper.specs.Answer.{refused}
 use Rattle.message.proofs.write.put_service.Goals as goal
 

@@ -1,7 +1,6 @@
 -- `message::write::refusal_on` meets its contract: 7 counts the service byte, and any other refusal stays.
 use mathlib.Core.Path.{sym, ◌∙◌}
 use native.Mathlib.Omega.{arith}
-use borrow.Author.Rules.{rules}
 use borrow.Author.Tests.{eq-eqb, ne_eqb}
 use Rattle.message.proofs.write.refusal_on.Goals as goal
 

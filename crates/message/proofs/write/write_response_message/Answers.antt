@@ -1,5 +1,4 @@
 -- `message::write::write_response_message` meets its contract: document 01's writer behind the service byte, and then that byte.
-use borrow.Author.Rules.{rules}
 use Rattle.paper.specs.WholeMessage.{file_response}
 use Rattle.request_file_transfer_response.specs.Writing.{response_of}
 use Rattle.message.proofs.Led.{spoken-of, leads, response-leads}

@@ -1,5 +1,4 @@
 -- `message::write::write_routine_request_message` meets its contract: document 01's writer behind the service byte, and then that byte.
-use borrow.Author.Rules.{rules}
 use Rattle.paper.specs.WholeMessage.{routine_request}
 use Rattle.routine_control.specs.SubFunction.{sub_of}
 use Rattle.routine_control.specs.Request as request

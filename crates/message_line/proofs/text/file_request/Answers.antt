@@ -1,5 +1,4 @@
 -- `message_line::text::file_request` meets its contract: each part of the line is what its own function says.
-use borrow.Author.Rules.{rules}
 use Rattle.message_line.proofs.text.file_request.Goals as goal
 
 pub returns : goal.returns

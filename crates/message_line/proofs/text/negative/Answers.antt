@@ -2,7 +2,6 @@
 use mathlib.Core.Path.{refl}
 use lib.Dec.{lit≤}
 use Rattle.form.proofs.Grown.{more, put_as}
-use borrow.Author.Rules.{rules}
 use Rattle.message_line.proofs.text.negative.Goals as goal
 
 pub returns : goal.returns

@@ -2,7 +2,6 @@
 use mathlib.Core.Path.{refl}
 use lib.Dec.{lit≤}
 use Rattle.form.proofs.Grown.{put_as}
-use borrow.Author.Rules.{rules}
 use Rattle.message_line.proofs.text.put_mark.Goals as goal
 
 pub returns-then-listed : goal.returns-then-listed

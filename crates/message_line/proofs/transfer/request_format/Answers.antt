@@ -2,7 +2,6 @@
 use mathlib.Core.Path.{refl, sym, ap, ◌∙◌}
 use Rattle.paper.specs.ReadingProgram.{shown}
 use Rattle.request_file_transfer.specs.Layout.{layout_of}
-use borrow.Author.Rules.{rules}
 use Rattle.message_line.proofs.transfer.request_format.Goals as goal
 
 pub returns-in-FormatAndSizes : goal.returns-in-FormatAndSizes

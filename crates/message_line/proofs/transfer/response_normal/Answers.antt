@@ -1,7 +1,6 @@
 -- `message_line::transfer::response_normal` meets its contract: the answer of the writer about a room that has no byte.
 use mathlib.Core.Path.{ap, ◌∙◌}
 use Rattle.message_line.specs.Text.{needed_in}
-use borrow.Author.Rules.{rules}
 use Rattle.message_line.proofs.transfer.response_normal.Goals as goal
 
 pub returns : goal.returns

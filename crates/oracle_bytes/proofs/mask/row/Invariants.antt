@@ -1,8 +1,7 @@
 -- `oracle_bytes::mask::row` meets its contract. The invariant: the row has 256 bytes. The measure is the number of bytes that are left.
 use mathlib.Core.Path.{◌≡◌}
 use Prim.Native.Nat.{◌-◌}
-use lib.ListN.{length, length-set}
-use borrow.Author.Rules.{rules}
+use lib.ListN.{length}
 use Rattle.oracle_bytes.proofs.mask.row.Given as goal
 
 abbrev pub invariant-loop-b : goal.invariant-loop-b

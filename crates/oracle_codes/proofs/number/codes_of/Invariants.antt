@@ -1,5 +1,5 @@
 -- `oracle_codes::number::codes_of` is safe and ends. The measure is the number of numbers that are left; nothing has to hold from turn to turn.
-use Rattle.std.proofs.Common.{◌-◌, rules}
+use Rattle.std.proofs.Common.{◌-◌}
 use Rattle.oracle_codes.proofs.number.codes_of.Given as goal
 
 abbrev pub invariant-loop-low : goal.invariant-loop-low

@@ -1,7 +1,6 @@
 -- `parts::read::flat_one_size` meets its contract: each arm is the definition's.
 use mathlib.Core.Path.{sym, ap, ◌∙◌}
 use Rattle.parts.specs.Flat.{flat_one_size}
-use borrow.Author.Rules.{rules}
 use Rattle.parts.proofs.read.flat_one_size.Goals as goal
 
 pub returns-in-Accepted : goal.returns-in-Accepted

@@ -1,5 +1,4 @@
 -- `parts::read::refused_sizes` meets its contract: the refusal's three numbers.
-use borrow.Author.Rules.{rules}
 use Rattle.parts.proofs.read.refused_sizes.Goals as goal
 
 pub returns : goal.returns

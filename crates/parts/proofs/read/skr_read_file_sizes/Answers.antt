@@ -1,6 +1,5 @@
 -- `parts::read::skr_read_file_sizes` meets its contract: what was read is right, so its flat form is that of the paper's answer.
 use mathlib.Core.Path.{◌∙◌}
-use borrow.Author.Rules.{rules}
 use Rattle.parts.proofs.Flats.{two_sizes_flat}
 use Rattle.parts.proofs.read.skr_read_file_sizes.Goals as goal
 

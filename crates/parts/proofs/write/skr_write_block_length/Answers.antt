@@ -1,6 +1,5 @@
 -- `parts::write::skr_write_block_length` meets its contract: its count is the check, and the block length is written.
 use Rattle.station.proofs.Written.{wrote_known}
-use borrow.Author.Rules.{rules}
 use Rattle.parts.proofs.Handing.{block-length-handed}
 use Rattle.parts.proofs.write.skr_write_block_length.Goals as goal
 

@@ -1,7 +1,6 @@
 -- `parts::write::skr_write_dir_size` meets its contract: the size of the halves is written.
 use mathlib.Core.Path.{refl}
 use Rattle.station.proofs.Written.{wrote_known}
-use borrow.Author.Rules.{rules}
 use Rattle.parts.proofs.write.skr_write_dir_size.Goals as goal
 
 pub returns : goal.returns

@@ -3,7 +3,6 @@ use mathlib.Core.Path.{sym, ap, ◌∙◌}
 use Rattle.wire.specs.Writing.{told}
 use Rattle.station.specs.Records.{written_record}
 use Rattle.station.proofs.Written.{wrote_known, not_known}
-use borrow.Author.Rules.{rules}
 use Rattle.parts.proofs.Handing.{name_passed, name-refused}
 use Rattle.parts.proofs.write.skr_write_name.Goals as goal
 

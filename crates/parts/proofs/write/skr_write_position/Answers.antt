@@ -1,7 +1,6 @@
 -- `parts::write::skr_write_position` meets its contract: the position is written.
 use mathlib.Core.Path.{refl}
 use Rattle.station.proofs.Written.{wrote_known}
-use borrow.Author.Rules.{rules}
 use Rattle.parts.proofs.write.skr_write_position.Goals as goal
 
 pub returns : goal.returns

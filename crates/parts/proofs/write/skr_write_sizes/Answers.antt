@@ -1,7 +1,6 @@
 -- `parts::write::skr_write_sizes` meets its contract: the two sizes of the halves are written.
 use mathlib.Core.Path.{refl}
 use Rattle.station.proofs.Written.{wrote_known}
-use borrow.Author.Rules.{rules}
 use Rattle.parts.proofs.write.skr_write_sizes.Goals as goal
 
 pub returns : goal.returns

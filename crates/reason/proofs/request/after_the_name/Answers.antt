@@ -1,5 +1,4 @@
 -- `reason::request::after_the_name` meets its contract: each layout has its steps.
-use borrow.Author.Rules.{rules}
 use Rattle.reason.proofs.request.after_the_name.Goals as goal
 
 pub returns-in-FormatAndSizes : goal.returns-in-FormatAndSizes

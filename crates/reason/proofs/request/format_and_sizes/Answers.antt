@@ -1,6 +1,5 @@
 -- `reason::request::format_and_sizes` meets its contract: the format byte is refused, or the sizes decide.
 use mathlib.Core.Path.{ap, subst}
-use borrow.Author.Rules.{rules}
 use Rattle.paper.specs.Reason.{no_format}
 use Rattle.wire.specs.Number.{seen_byte, ByteRight}
 use Rattle.wire.proofs.Left.{left}

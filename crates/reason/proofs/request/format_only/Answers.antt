@@ -1,6 +1,5 @@
 -- `reason::request::format_only` meets its contract: the field is accepted, or refused with all that its reader says.
 use mathlib.Core.Path.{refl, ap}
-use borrow.Author.Rules.{rules}
 use Rattle.paper.specs.Reason.{no_format}
 use Rattle.wire.specs.Number.{seen_byte}
 use Rattle.reason.specs.Step.{always}

@@ -1,8 +1,5 @@
 -- `reason::request::why_request` meets its contract: the first step that refuses is the first check that fails.
 use mathlib.Core.Path.{◌≡◌, refl, sym, ap, subst, ◌∙◌}
-use Prim.Native.Nat.{ℕ}
-use mathlib.Core.List.{List}
-use borrow.Author.Rules.{rules}
 use Rattle.paper.specs.Reason.{name_end}
 use Rattle.wire.specs.Number.{seen_byte, ByteRight}
 use Rattle.wire.specs.Place.{seen_place}

@@ -1,5 +1,4 @@
 -- `reason::response::after_the_format` meets its contract: each layout has its step.
-use borrow.Author.Rules.{rules}
 use Rattle.reason.proofs.response.after_the_format.Goals as goal
 
 pub returns-in-TwoSizes : goal.returns-in-TwoSizes

@@ -1,8 +1,5 @@
 -- `reason::response::after_the_mode` meets its contract: nothing, or block length, format byte and more, one after the other.
 use mathlib.Core.Path.{◌≡◌, ap, subst}
-use Prim.Native.Nat.{ℕ}
-use mathlib.Core.List.{List}
-use borrow.Author.Rules.{rules}
 use Rattle.paper.specs.Reason.{block_end}
 use Rattle.wire.specs.Number.{seen_byte, ByteRight}
 use Rattle.wire.specs.Place.{seen_place, CountedRight}

@@ -1,8 +1,5 @@
 -- `reason::response::why_response` meets its contract: the first step that refuses is the first check that fails.
 use mathlib.Core.Path.{refl, sym, ap, subst, ◌∙◌}
-use Prim.Native.Nat.{ℕ}
-use mathlib.Core.List.{List}
-use borrow.Author.Rules.{rules}
 use Rattle.wire.specs.Number.{seen_byte, ByteRight}
 use Rattle.wire.specs.declared.number.ByteAnswer.{ByteAnswer}
 use Rattle.wire.proofs.Left.{left, left-answer}

@@ -1,6 +1,5 @@
 -- `reason::step::block_fault` meets its contract: the test of the paper's cases.
 use mathlib.Core.Path.{sym, ◌∙◌}
-use borrow.Author.Rules.{rules}
 use borrow.Author.Tests.{eq-eqb, ne_eqb}
 use Rattle.reason.proofs.step.block_fault.Goals as goal
 

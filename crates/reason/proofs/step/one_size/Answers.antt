@@ -1,6 +1,5 @@
 -- `reason::step::one_size` meets its contract: the group is accepted, or its refusal tells what is wrong with it.
 use mathlib.Core.Path.{refl, ap}
-use borrow.Author.Rules.{rules}
 use Rattle.wire.specs.Group.{seen_size}
 use Rattle.reason.specs.Step.{sizes_fault}
 use Rattle.reason.proofs.Steps.{step_on, step_named, seen_as}

@@ -1,6 +1,5 @@
 -- `reason::step::position` meets its contract: the field is accepted, or refused with all that its reader says.
 use mathlib.Core.Path.{refl, ap}
-use borrow.Author.Rules.{rules}
 use Rattle.paper.specs.Reason.{cut_position}
 use Rattle.wire.specs.Number.{seen_eight}
 use Rattle.reason.specs.Step.{always}

@@ -1,6 +1,5 @@
 -- `reason::step::sizes_fault` meets its contract: the tests of the paper's cases, in their order.
 use mathlib.Core.Path.{sym, ◌∙◌}
-use borrow.Author.Rules.{rules}
 use borrow.Author.Tests.{eq-eqb, ne_eqb, le-leb, lt-leb}
 use Rattle.reason.proofs.step.sizes_fault.Goals as goal
 

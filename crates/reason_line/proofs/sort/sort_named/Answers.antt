@@ -1,5 +1,4 @@
 -- `reason_line::sort::sort_named` meets its contract: the word is compared with each sort's.
-use borrow.Author.Rules.{rules}
 use Rattle.reason_line.proofs.Words.{no_word}
 use Rattle.reason_line.proofs.sort.sort_named.Goals as goal
 

@@ -1,5 +1,4 @@
 -- `reason_line::sort::why` meets its contract: each sort has its call.
-use borrow.Author.Rules.{rules}
 use Rattle.reason_line.proofs.sort.why.Goals as goal
 
 pub returns-in-Request : goal.returns-in-Request

@@ -1,6 +1,5 @@
 -- `reason_line::text::put_end` meets its contract: each fault's sentence, letter by letter.
 use mathlib.Core.Path.{refl}
-use borrow.Author.Rules.{rules}
 use lib.Dec.{lit≤}
 use Rattle.ascii_text.proofs.Laid.{put_as}
 use Rattle.reason_line.proofs.text.put_end.Goals as goal

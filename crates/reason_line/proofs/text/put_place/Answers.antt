@@ -1,6 +1,5 @@
 -- `reason_line::text::put_place` meets its contract: each field's words, and the offset after them.
 use mathlib.Core.Path.{refl}
-use borrow.Author.Rules.{rules}
 use lib.Dec.{lit≤}
 use Rattle.ascii_text.proofs.Laid.{put-laid, put_as}
 use Rattle.reason_line.proofs.text.put_place.Goals as goal

@@ -1,5 +1,4 @@
 -- `reason_line::text::put_reason` meets its contract: each piece in the room that begins where the previous one ended.
-use borrow.Author.Rules.{rules}
 use lib.Dec.{lit≤}
 use Rattle.ascii_text.proofs.Laid.{put-more, put_as}
 use Rattle.reason_line.proofs.Words.{reason-is}

@@ -1,5 +1,4 @@
 -- `reason_line::text::put_word` meets its contract: the bytes are put as they are.
-use borrow.Author.Rules.{rules}
 use Rattle.ascii_text.proofs.Laid.{put_leaf}
 use Rattle.reason_line.proofs.text.put_word.Goals as goal
 

@@ -1,5 +1,4 @@
 -- `request_file_transfer::name::good_name` meets its contract: the checks in the paper's order.
-use borrow.Author.Rules.{rules}
 use borrow.Author.Tests.{lt-leb, le-leb}
 use Rattle.paper.specs.Request.{good_name}
 use Rattle.paper.proofs.Utf8.{longest-is}

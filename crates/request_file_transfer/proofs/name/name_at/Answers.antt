@@ -1,7 +1,6 @@
 -- `request_file_transfer::name::name_at` meets its contract: the count's refusal is the name's, and what is judged are the bytes at the place that was found.
 use mathlib.Core.Path.{◌≡◌, sym, ap, subst, ◌∙◌}
 use Prim.Native.Nat.{ℕ}
-use borrow.Author.Rules.{rules}
 use Rattle.paper.specs.Answer.{refused, wrong_format}
 use Rattle.paper.specs.Utf8.{valid_up_to, is_utf8}
 use Rattle.paper.specs.Field.{counted, name}

@@ -1,6 +1,5 @@
 -- `request_file_transfer::name_payload::kept_name` meets its contract: where the checks tell a length they hand on the whole name, and where they refuse nothing.
 use mathlib.Core.Path.{refl, sym, ap, ◌∙◌}
-use borrow.Author.Rules.{rules}
 use Rattle.paper.specs.Request.{good_name}
 use Rattle.paper.proofs.Request.{good-name}
 use Rattle.wire.specs.Writing.{told}

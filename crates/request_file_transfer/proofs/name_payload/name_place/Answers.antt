@@ -1,7 +1,6 @@
 -- `request_file_transfer::name_payload::name_place` meets its contract: the reader's refusal is the answer; else the place of the name that was read is settled by its bytes, since its start is known.
 use mathlib.Core.Path.{sym, ap, subst, ◌∙◌}
 use native.Mathlib.Omega.{arith}
-use borrow.Author.Rules.{rules}
 use Rattle.paper.specs.Answer.{accepted}
 use Rattle.wire.proofs.Left.{left}
 use Rattle.wire.proofs.Unique.{place_back}

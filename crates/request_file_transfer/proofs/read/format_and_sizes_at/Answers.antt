@@ -1,6 +1,5 @@
 -- `request_file_transfer::read::format_and_sizes_at` meets its contract: the format byte, then the group of two sizes, and the first refusal is the answer.
 use mathlib.Core.Path.{ap, subst}
-use borrow.Author.Rules.{rules}
 use Rattle.paper.specs.Answer.{give}
 use Rattle.paper.specs.Field.{byte, size_group}
 use Rattle.paper.proofs.Places.{on, off}

@@ -1,6 +1,5 @@
 -- `request_file_transfer::read::format_at` meets its contract: the byte's refusal is the answer, and after a byte both sizes are 0.
 use mathlib.Core.Path.{ap, subst}
-use borrow.Author.Rules.{rules}
 use Rattle.paper.specs.Field.{byte}
 use Rattle.paper.proofs.Places.{on, off}
 use Rattle.wire.specs.Number.{seen_byte, ByteRight}

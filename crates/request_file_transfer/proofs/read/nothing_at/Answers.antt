@@ -1,5 +1,4 @@
 -- `request_file_transfer::read::nothing_at` meets its contract: no byte is taken, and all that is not there is 0.
-use borrow.Author.Rules.{rules}
 use Rattle.request_file_transfer.proofs.Rests.{without_sizes, zero_halves}
 use Rattle.request_file_transfer.proofs.read.nothing_at.Goals as goal
 

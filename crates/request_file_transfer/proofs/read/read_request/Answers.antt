@@ -1,9 +1,6 @@
 -- `request_file_transfer::read::read_request` meets its contract: mode, name and what stands after the name, one after the other, and the first refusal is the answer.
 use mathlib.Core.Path.{◌≡◌, refl, sym, ap, subst, ◌∙◌}
-use Prim.Native.Nat.{ℕ}
-use mathlib.Core.List.{List}
 use native.Mathlib.Omega.{arith}
-use borrow.Author.Rules.{rules}
 use Rattle.paper.specs.Answer.{accepted}
 use Rattle.paper.specs.Kind.{known}
 use Rattle.paper.specs.Field.{byte}

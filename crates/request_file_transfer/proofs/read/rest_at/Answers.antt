@@ -1,5 +1,4 @@
 -- `request_file_transfer::read::rest_at` meets its contract: each layout has its reader.
-use borrow.Author.Rules.{rules}
 use Rattle.request_file_transfer.proofs.read.rest_at.Goals as goal
 
 pub returns-in-FormatAndSizes : goal.returns-in-FormatAndSizes

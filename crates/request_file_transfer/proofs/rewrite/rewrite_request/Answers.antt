@@ -1,6 +1,5 @@
 -- `request_file_transfer::rewrite::rewrite_request` meets its contract: the reader's refusal is the answer; else what it accepted is written, the name from its place, and the tail stands beside the writer's answer.
 use mathlib.Core.Path.{sym, ap, subst}
-use borrow.Author.Rules.{rules}
 use Rattle.paper.specs.Request.{read_request, write_request, rewrite_request}
 use Rattle.paper.proofs.Request.{request-name}
 use Rattle.paper.proofs.Places.{bytes_of}

@@ -1,7 +1,6 @@
 -- `request_file_transfer::write::put_rest` meets its contract: what stands after the name, arm by arm.
 use mathlib.Core.Path.{refl}
 use native.Mathlib.Omega.{arith}
-use borrow.Author.Rules.{rules}
 use Rattle.wire.proofs.Over.{filled_none}
 use Rattle.wire.proofs.Writes.{filled}
 use Rattle.request_file_transfer.proofs.write.put_rest.Goals as goal

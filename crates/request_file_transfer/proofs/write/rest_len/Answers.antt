@@ -1,5 +1,4 @@
 -- `request_file_transfer::write::rest_len` meets its contract: after the format byte stands a width in one byte, and two sizes of that width.
-use borrow.Author.Rules.{rules}
 use native.Mathlib.Omega.{arith}
 use Rattle.wire.proofs.FieldBytes.{length_two}
 use Rattle.request_file_transfer.proofs.write.rest_len.Goals as goal

@@ -1,5 +1,4 @@
 -- `request_file_transfer::write::write_request` meets its contract: the checks of the name, and then the writer of a good one.
-use borrow.Author.Rules.{rules}
 use mathlib.Core.Path.{sym, ap, ◌∙◌}
 use Rattle.wire.specs.Writing.{told}
 use Rattle.request_file_transfer.proofs.Laid.{named, off}

@@ -4,7 +4,6 @@ use Rattle.paper.specs.Response as paper
 use Rattle.paper.specs.Response.{after_mode}
 use Rattle.file_operation.specs.Mode.{kind_of}
 use Rattle.file_operation.specs.declared.mode.FileOperationMode.{FileOperationMode}
-use borrow.Author.Rules.{rules}
 use Rattle.request_file_transfer_response.proofs.layout.after_mode.Goals as goal
 
 abbrev row : FileOperationMode → paper.AfterMode

@@ -1,7 +1,5 @@
 -- `request_file_transfer_response::read::body_at` meets its contract: nothing, or block length, format byte and more, one after the other; a field's refusal is the answer's.
 use mathlib.Core.Path.{ap, subst}
-use mathlib.Core.List.{List, []}
-use Prim.Native.Nat.{ℕ}
 use native.Mathlib.Omega.{arith}
 use Rattle.paper.specs.Field.{block_length, byte}
 use Rattle.paper.proofs.Places.{on, off}
@@ -12,7 +10,6 @@ use Rattle.wire.specs.declared.place.PlaceAnswer.{PlaceAnswer}
 use Rattle.wire.proofs.Left.{left}
 use Rattle.request_file_transfer_response.specs.Layout.{more_of}
 use Rattle.request_file_transfer_response.specs.Reading.{seen_more, MoreRight}
-use borrow.Author.Rules.{rules}
 use Rattle.request_file_transfer_response.proofs.read.body_at.Goals as goal
 
 pub returns-in_default : goal.returns-in_default

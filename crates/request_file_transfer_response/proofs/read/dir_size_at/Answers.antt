@@ -6,7 +6,6 @@ use Rattle.paper.specs.Field.{size_group}
 use Rattle.paper.proofs.Places.{on, off}
 use Rattle.wire.specs.Group.{seen_size, OneSizeRight}
 use Rattle.wire.proofs.Left.{left}
-use borrow.Author.Rules.{rules}
 use Rattle.request_file_transfer_response.proofs.read.dir_size_at.Goals as goal
 
 pub returns-in_default : goal.returns-in_default

@@ -1,7 +1,6 @@
 -- `request_file_transfer_response::read::ended_at` meets its contract: no byte is taken, and all is 0 or empty.
 use mathlib.Core.Path.{refl}
 use native.Mathlib.Omega.{arith}
-use borrow.Author.Rules.{rules}
 use Rattle.request_file_transfer_response.proofs.Cases.{no_sizes}
 use Rattle.request_file_transfer_response.proofs.read.ended_at.Goals as goal
 

@@ -1,5 +1,4 @@
 -- `request_file_transfer_response::read::more_at` meets its contract: each arm is the reader that the paper has for its layout.
-use borrow.Author.Rules.{rules}
 use Rattle.request_file_transfer_response.proofs.read.more_at.Goals as goal
 
 pub returns-in-Nothing : goal.returns-in-Nothing

@@ -1,6 +1,5 @@
 -- `request_file_transfer_response::read::nothing_at` meets its contract: no byte is taken, and what has no sizes and no position is all 0.
 use native.Mathlib.Omega.{arith}
-use borrow.Author.Rules.{rules}
 use Rattle.request_file_transfer_response.proofs.Cases.{no_sizes}
 use Rattle.request_file_transfer_response.proofs.read.nothing_at.Goals as goal
 

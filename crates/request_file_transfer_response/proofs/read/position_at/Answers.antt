@@ -5,7 +5,6 @@ use Rattle.paper.specs.Field.{number}
 use Rattle.paper.proofs.Places.{on, off}
 use Rattle.wire.specs.Number.{seen_eight, EightRight}
 use Rattle.wire.proofs.Left.{left}
-use borrow.Author.Rules.{rules}
 use Rattle.request_file_transfer_response.proofs.Cases.{no_sizes}
 use Rattle.request_file_transfer_response.proofs.read.position_at.Goals as goal
 

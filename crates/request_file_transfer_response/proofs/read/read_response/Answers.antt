@@ -1,9 +1,7 @@
 -- `request_file_transfer_response::read::read_response` meets its contract: its answers are the cases of a response, by its mode and what stands after it.
 use mathlib.Core.Path.{◌≡◌, refl, sym, ap, subst, ◌∙◌}
-use mathlib.Core.List.{List}
-use Prim.Native.Nat.{ℕ}
 use Rattle.paper.specs.Answer.{accepted}
-use Rattle.paper.specs.Kind.{Kind, known}
+use Rattle.paper.specs.Kind.{known}
 use Rattle.paper.specs.Response.{after_mode}
 use Rattle.wire.specs.Number.{seen_byte, ByteRight}
 use Rattle.wire.specs.declared.number.ByteAnswer.{ByteAnswer}
@@ -12,7 +10,6 @@ use Rattle.file_operation.specs.Mode.{kind_of, mode_said, mode_refusal}
 use Rattle.file_operation.specs.declared.mode.ModeAnswer.{ModeAnswer}
 use Rattle.request_file_transfer_response.specs.Reading.{seen_body, block_start, BodyRight}
 use Rattle.request_file_transfer_response.proofs.Cases.{no_mode_lem, no_kind, by_kind}
-use borrow.Author.Rules.{rules}
 use Rattle.request_file_transfer_response.proofs.read.read_response.Goals as goal
 
 pub returns-in_default : goal.returns-in_default

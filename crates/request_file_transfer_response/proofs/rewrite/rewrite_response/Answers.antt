@@ -4,7 +4,6 @@ use Rattle.paper.specs.Response.{read_response, write_response, rewrite_response
 use Rattle.wire.proofs.Left.{left}
 use Rattle.file_operation.proofs.Rewrites.{unread, reread}
 use Rattle.request_file_transfer_response.specs.Reading.{seen_response, ResponseRight}
-use borrow.Author.Rules.{rules}
 use Rattle.request_file_transfer_response.proofs.rewrite.rewrite_response.Goals as goal
 
 pub returns-in_default : goal.returns-in_default

@@ -1,6 +1,5 @@
 -- `request_file_transfer_response::sent_data::block_length_place` meets its contract: the reader's refusal is the answer; else the place of the block length that was read is settled by its bytes, since its start is known.
 use mathlib.Core.Path.{sym, ap, subst, ◌∙◌}
-use borrow.Author.Rules.{rules}
 use Rattle.paper.specs.Answer.{accepted}
 use Rattle.wire.proofs.Left.{left}
 use Rattle.wire.proofs.Unique.{place_back}

@@ -1,6 +1,5 @@
 -- `request_file_transfer_response::sent_data::kept_block_length` meets its contract: where the check tells a length it hands on the whole block length, and where it refuses nothing.
 use mathlib.Core.Path.{refl, sym, ap, ◌∙◌}
-use borrow.Author.Rules.{rules}
 use Rattle.paper.specs.Response.{good_block_length}
 use Rattle.paper.proofs.Response.{good-block-length}
 use Rattle.wire.specs.Writing.{told}

@@ -1,6 +1,5 @@
 -- `request_file_transfer_response::sent_data::response_block_length` meets its contract: the part at a place, and the place is the paper's.
 use mathlib.Core.Path.{ap, subst, ◌∙◌}
-use borrow.Author.Rules.{rules}
 use Rattle.wire.specs.Place.{IsPart}
 use Rattle.wire.specs.declared.place.Place.{Place}
 use Rattle.file_operation.specs.Part.{or_empty}

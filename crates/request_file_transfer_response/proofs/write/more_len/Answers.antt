@@ -3,7 +3,6 @@ use mathlib.Core.Path.{sym}
 use native.Mathlib.Omega.{arith}
 use Rattle.paper.proofs.Bytes.{length_to_bytes}
 use Rattle.wire.proofs.FieldBytes.{length_one, length_two}
-use borrow.Author.Rules.{rules}
 use Rattle.request_file_transfer_response.proofs.write.more_len.Goals as goal
 
 pub returns-in-TwoSizes : goal.returns-in-TwoSizes

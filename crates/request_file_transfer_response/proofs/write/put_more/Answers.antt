@@ -2,7 +2,6 @@
 use mathlib.Core.Path.{refl}
 use Rattle.wire.proofs.Over.{filled_none}
 use Rattle.wire.proofs.Writes.{filled}
-use borrow.Author.Rules.{rules}
 use Rattle.request_file_transfer_response.proofs.write.put_more.Goals as goal
 
 pub returns-in-Nothing : goal.returns-in-Nothing

@@ -1,6 +1,5 @@
 -- `request_line::line::format_shown` meets its contract: each layout's case of the paper's table.
 use mathlib.Core.Path.{ap}
-use borrow.Author.Rules.{rules}
 use Rattle.paper.specs.ReadingProgram.{shown}
 use Rattle.request_line.proofs.line.format_shown.Goals as goal
 

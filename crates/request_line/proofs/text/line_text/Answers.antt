@@ -1,5 +1,4 @@
 -- `request_line::text::line_text` meets its contract: the text of the line that the input has.
-use borrow.Author.Rules.{rules}
 use Rattle.request_line.proofs.text.line_text.Goals as goal
 
 pub returns : goal.returns

@@ -1,5 +1,4 @@
 -- `request_line::text::put_accepted` meets its contract: each field in the room that begins where the previous one ended.
-use borrow.Author.Rules.{rules}
 use lib.Dec.{lit≤}
 use Rattle.ascii_text.proofs.Laid.{put-laid, put_leaf, put-more, put_as}
 use Rattle.request_line.proofs.Laid.{good-is}

@@ -1,6 +1,5 @@
 -- `request_line::text::put_front` meets its contract: each field in the room that begins where the previous one ended.
 use mathlib.Core.Path.{refl}
-use borrow.Author.Rules.{rules}
 use lib.Dec.{lit≤}
 use Rattle.ascii_text.proofs.Laid.{put-laid, put_leaf, put-more, put_as}
 use Rattle.request_line.proofs.text.put_front.Goals as goal

@@ -1,6 +1,5 @@
 -- `request_line::text::put_shown` meets its contract: a dash, or the decimal of the byte.
 use mathlib.Core.Path.{refl}
-use borrow.Author.Rules.{rules}
 use lib.Dec.{lit≤}
 use Rattle.ascii_text.proofs.Laid.{put-laid, put_leaf, put_as}
 use Rattle.request_line.proofs.text.put_shown.Goals as goal

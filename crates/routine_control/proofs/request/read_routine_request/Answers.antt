@@ -10,7 +10,6 @@ use Rattle.routine_control.specs.declared.sub_function.SuppressableAnswer.{Suppr
 use Rattle.wire.proofs.Left.{left-answer}
 use Rattle.routine_control.proofs.Codes.{low_bits, top_bit}
 use Rattle.routine_control.proofs.Cases.{too_few, no_sub, whole, record_place}
-use borrow.Author.Rules.{rules}
 use Rattle.routine_control.proofs.request.read_routine_request.Goals as goal
 
 abbrev low : ℕ → ℕ

@@ -8,7 +8,6 @@ use Rattle.routine_control.specs.Response.{routine_response}
 use Rattle.routine_control.specs.declared.sub_function.SubFunctionAnswer.{SubFunctionAnswer}
 use Rattle.wire.proofs.Left.{left-answer}
 use Rattle.routine_control.proofs.Cases.{too_few, no_sub, whole, record_place}
-use borrow.Author.Rules.{rules}
 use Rattle.routine_control.proofs.response.read_routine_response.Goals as goal
 
 abbrev all : ℕ → ℕ

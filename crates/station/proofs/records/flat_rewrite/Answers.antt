@@ -1,7 +1,6 @@
 -- `station::records::flat_rewrite` meets its contract: each arm is the definition's.
 use mathlib.Core.Path.{sym, ap}
 use Rattle.station.specs.Flat.{flat_rewrite}
-use borrow.Author.Rules.{rules}
 use Rattle.station.proofs.records.flat_rewrite.Goals as goal
 
 pub returns-in-Accepted : goal.returns-in-Accepted

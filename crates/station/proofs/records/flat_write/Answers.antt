@@ -4,7 +4,6 @@ use Rattle.wire.specs.Writing.{told}
 use Rattle.wire.specs.declared.write.WriteAnswer.{WriteAnswer}
 use Rattle.station.specs.Records.{written_record}
 use Rattle.station.specs.declared.records.WrittenRecord.{WrittenRecord}
-use borrow.Author.Rules.{rules}
 use Rattle.station.proofs.records.flat_write.Goals as goal
 
 abbrev flat : WriteAnswer → WrittenRecord

@@ -1,5 +1,4 @@
 -- `station::records::refused_write` meets its contract: the refusal's three numbers.
-use borrow.Author.Rules.{rules}
 use Rattle.station.proofs.records.refused_write.Goals as goal
 
 pub returns : goal.returns

@@ -1,5 +1,4 @@
 -- `station::routine::accepted_message` meets its contract: the bit and the sub-function in their numbers.
-use borrow.Author.Rules.{rules}
 use Rattle.station.proofs.routine.accepted_message.Goals as goal
 
 pub returns : goal.returns

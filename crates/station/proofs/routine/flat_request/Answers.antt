@@ -1,7 +1,6 @@
 -- `station::routine::flat_request` meets its contract: each arm is the definition's.
 use mathlib.Core.Path.{sym, ap, ◌∙◌}
 use Rattle.station.specs.Flat.{flat_routine_request}
-use borrow.Author.Rules.{rules}
 use Rattle.station.proofs.routine.flat_request.Goals as goal
 
 pub returns-in-Accepted : goal.returns-in-Accepted

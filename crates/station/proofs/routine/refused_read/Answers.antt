@@ -1,5 +1,4 @@
 -- `station::routine::refused_read` meets its contract: the refusal's three numbers.
-use borrow.Author.Rules.{rules}
 use Rattle.station.proofs.routine.refused_read.Goals as goal
 
 pub returns : goal.returns

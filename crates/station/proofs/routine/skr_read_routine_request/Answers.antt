@@ -1,7 +1,6 @@
 -- `station::routine::skr_read_routine_request` meets its contract: the answer that was read, in its flat form, is the paper's.
 use mathlib.Core.Path.{◌∙◌}
 use Rattle.station.proofs.Routines.{routine_request_flat}
-use borrow.Author.Rules.{rules}
 use Rattle.station.proofs.routine.skr_read_routine_request.Goals as goal
 
 pub returns : goal.returns

@@ -1,7 +1,6 @@
 -- `station::routine::skr_read_routine_response` meets its contract: the answer that was read, in its flat form, is the paper's.
 use mathlib.Core.Path.{◌∙◌}
 use Rattle.station.proofs.Routines.{routine_response_flat}
-use borrow.Author.Rules.{rules}
 use Rattle.station.proofs.routine.skr_read_routine_response.Goals as goal
 
 pub returns : goal.returns

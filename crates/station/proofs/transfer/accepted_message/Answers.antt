@@ -1,5 +1,4 @@
 -- `station::transfer::accepted_message` meets its contract: the two bytes are the kind's and the format's.
-use borrow.Author.Rules.{rules}
 use Rattle.station.proofs.transfer.accepted_message.Goals as goal
 
 pub returns : goal.returns

@@ -4,7 +4,6 @@ use Rattle.desk_check.specs.Desk.{desk_said}
 use Rattle.desk_check.specs.declared.DeskAnswer.{DeskAnswer}
 use Rattle.station.specs.Records.{desk_record}
 use Rattle.station.specs.declared.records.DeskRecord.{DeskRecord}
-use borrow.Author.Rules.{rules}
 use Rattle.station.proofs.transfer.flat_desk.Goals as goal
 
 abbrev flat : DeskAnswer → DeskRecord

@@ -1,7 +1,6 @@
 -- `station::transfer::flat_response` meets its contract: each arm is the definition's.
 use mathlib.Core.Path.{sym, ap, ◌∙◌}
 use Rattle.station.specs.Flat.{flat_response}
-use borrow.Author.Rules.{rules}
 use Rattle.station.proofs.transfer.flat_response.Goals as goal
 
 pub returns-in-Accepted : goal.returns-in-Accepted

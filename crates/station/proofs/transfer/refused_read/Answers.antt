@@ -1,5 +1,4 @@
 -- `station::transfer::refused_read` meets its contract: the refusal's three numbers.
-use borrow.Author.Rules.{rules}
 use Rattle.station.proofs.transfer.refused_read.Goals as goal
 
 pub returns : goal.returns

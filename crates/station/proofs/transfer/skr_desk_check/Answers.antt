@@ -1,7 +1,6 @@
 -- `station::transfer::skr_desk_check` meets its contract: the flat form of what the desk says.
 use mathlib.Core.Path.{ap, ◌∙◌}
 use Rattle.station.specs.Records.{desk_record}
-use borrow.Author.Rules.{rules}
 use Rattle.station.proofs.transfer.skr_desk_check.Goals as goal
 
 pub returns : goal.returns

@@ -1,6 +1,5 @@
 -- `station::transfer::skr_read_request` meets its contract: what was read is right, so its flat form is that of the paper's answer.
 use mathlib.Core.Path.{◌∙◌}
-use borrow.Author.Rules.{rules}
 use Rattle.station.proofs.Transfers.{request_flat}
 use Rattle.station.proofs.transfer.skr_read_request.Goals as goal
 

@@ -1,6 +1,5 @@
 -- `station::transfer::skr_read_response` meets its contract: what was read is right, so its flat form is that of the paper's answer.
 use mathlib.Core.Path.{◌∙◌}
-use borrow.Author.Rules.{rules}
 use Rattle.station.proofs.Transfers.{response_flat}
 use Rattle.station.proofs.transfer.skr_read_response.Goals as goal
 

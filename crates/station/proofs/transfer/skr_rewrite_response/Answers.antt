@@ -1,5 +1,4 @@
 -- `station::transfer::skr_rewrite_response` meets its contract: the answer, with where its tail begins, and the contents are those of the rewriting.
-use borrow.Author.Rules.{rules}
 use Rattle.station.proofs.Transfers.{rewrote_flat}
 use Rattle.station.proofs.transfer.skr_rewrite_response.Goals as goal
 

@@ -3,7 +3,6 @@ use mathlib.Core.Path.{refl, sym, ap, ◌∙◌}
 use Rattle.wire.proofs.Left.{left-answer}
 use Rattle.file_operation.specs.Mode.{mode_said, mode_refusal}
 use Rattle.file_operation.specs.declared.mode.ModeAnswer.{ModeAnswer}
-use borrow.Author.Rules.{rules}
 use Rattle.station.proofs.Written.{wrote_known, not_known}
 use Rattle.station.proofs.Transfers.{request-known, request-unknown}
 use Rattle.station.proofs.transfer.skr_write_request.Goals as goal

@@ -1,5 +1,4 @@
 -- `station::trouble::flat_code` meets its contract: each arm is the definition's.
-use borrow.Author.Rules.{rules}
 use Rattle.station.proofs.trouble.flat_code.Goals as goal
 
 pub returns-in-Accepted : goal.returns-in-Accepted

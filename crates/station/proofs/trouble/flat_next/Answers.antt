@@ -1,7 +1,6 @@
 -- `station::trouble::flat_next` meets its contract: each arm is the definition's.
 use mathlib.Core.Path.{sym, ap, ◌∙◌}
 use Rattle.station.specs.Flat.{flat_next}
-use borrow.Author.Rules.{rules}
 use Rattle.station.proofs.trouble.flat_next.Goals as goal
 
 pub returns-in-Nothing : goal.returns-in-Nothing

@@ -1,5 +1,4 @@
 -- `station::trouble::found_next` meets its contract: the code's three bytes and where the next one begins.
-use borrow.Author.Rules.{rules}
 use Rattle.station.proofs.trouble.found_next.Goals as goal
 
 pub returns : goal.returns

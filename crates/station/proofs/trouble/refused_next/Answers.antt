@@ -1,5 +1,4 @@
 -- `station::trouble::refused_next` meets its contract: the refusal's three numbers.
-use borrow.Author.Rules.{rules}
 use Rattle.station.proofs.trouble.refused_next.Goals as goal
 
 pub returns : goal.returns

@@ -1,7 +1,6 @@
 -- `station::trouble::skr_dtc_from_number` meets its contract: the answer about the number, in its flat form, is the paper's.
 use mathlib.Core.Path.{ap, ◌∙◌}
 use Rattle.station.specs.Records.{code_record}
-use borrow.Author.Rules.{rules}
 use Rattle.station.proofs.trouble.skr_dtc_from_number.Goals as goal
 
 pub returns : goal.returns

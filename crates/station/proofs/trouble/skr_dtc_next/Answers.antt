@@ -1,7 +1,6 @@
 -- `station::trouble::skr_dtc_next` meets its contract: the next code, in its flat form, is the paper's.
 use mathlib.Core.Path.{◌∙◌}
 use Rattle.station.proofs.Codes.{next_flat}
-use borrow.Author.Rules.{rules}
 use Rattle.station.proofs.trouble.skr_dtc_next.Goals as goal
 
 pub returns : goal.returns

@@ -1,10 +1,8 @@
 -- `tally::sheet::any_count` meets its contract: all cells before place i are 0, so that the answer is that of the others.
-use mathlib.Core.Path.{◌≡◌, refl, sym, ◌∙◌}
+use mathlib.Core.Path.{◌≡◌}
 use Prim.Native.Nat.{◌-◌, ◌≤◌}
-use borrow.Author.Rules.{rules}
 use lib.ListN.{length, drop}
 use Rattle.tally.specs.Sheet.{any_count}
-use Rattle.tally.proofs.Cells.{zero_turn, count_turn, none_left}
 use Rattle.tally.proofs.sheet.any_count.Given as goal
 
 abbrev pub invariant-loop-i : goal.invariant-loop-i

@@ -1,9 +1,9 @@
 -- `tally::sheet::cells_of` meets its contract: the first i cells are those of the rows, one after the other.
-use mathlib.Core.Path.{◌≡◌, refl, sym}
-use Prim.Native.Nat.{◌-◌, ◌≤◌}
+use mathlib.Core.Path.{refl, sym}
+use Prim.Native.Nat.{◌-◌}
 use native.Mathlib.Omega.{arith}
 use borrow.Author.Rules.{rules}
-use lib.ListN.{length, take, length-set}
+use lib.ListN.{length-set}
 use Rattle.tally.specs.Sheet.{cells_of}
 use Rattle.tally.proofs.Cells.{length_cells, cell_of, cells-more, cells-all}
 use Rattle.tally.proofs.sheet.cells_of.Goals as goal

@@ -1,11 +1,8 @@
 -- `tally::sheet::cells_of` meets its contract: the first i cells are those of the rows, one after the other.
-use mathlib.Core.Path.{◌≡◌, refl, sym}
+use mathlib.Core.Path.{◌≡◌}
 use Prim.Native.Nat.{◌-◌, ◌≤◌}
-use native.Mathlib.Omega.{arith}
-use borrow.Author.Rules.{rules}
-use lib.ListN.{length, take, length-set}
+use lib.ListN.{length, take}
 use Rattle.tally.specs.Sheet.{cells_of}
-use Rattle.tally.proofs.Cells.{length_cells, cell_of, cells-more, cells-all}
 use Rattle.tally.proofs.sheet.cells_of.Given as goal
 
 abbrev pub invariant-loop-i : goal.invariant-loop-i

@@ -1,6 +1,5 @@
 -- `tally::sheet::sheet_of` meets its contract: the cells are those of the table, and where one counts something the sheet was not refused.
 use mathlib.Core.Path.{◌≡◌, sym, ap, ◌∙◌}
-use borrow.Author.Rules.{rules}
 use Rattle.paper.specs.Tally.{tallied, table_of}
 use Rattle.tally.specs.Sheet.{cells_of, any_count}
 use Rattle.tally.proofs.Cells.{shaped, counted_something}

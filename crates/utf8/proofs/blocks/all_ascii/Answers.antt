@@ -1,12 +1,8 @@
 -- `all_ascii` meets its contract: the bits of the bytes passed are below 0x80 where each byte is.
-use Prim.Native.Nat.{◌<◌, ◌≤◌, ◌-◌}
-use mathlib.Core.Logic.{◌↔◌}
 use native.Mathlib.Omega.{arith}
 use borrow.Author.Count.{below_none}
 use borrow.Author.Rules.{rules}
 use borrow.Author.Tests.{ltb-true, lt-ltb}
-use lib.ListN.{length}
-use Rattle.utf8.specs.Ascii.{AsciiTo}
 use Rattle.utf8.proofs.Ascii.{bits_turn}
 use Rattle.utf8.proofs.blocks.all_ascii.Goals as goal
 

@@ -1,13 +1,10 @@
 -- `all_fit` meets its contract: each byte passed fits exactly where none was found that does not.
 use Prim.Native.Nat.{◌≤◌, ◌-◌}
-use mathlib.Core.Path.{◌≡◌, refl}
+use mathlib.Core.Path.{◌≡◌}
 use mathlib.Core.Bool.{true}
 use mathlib.Core.Logic.{◌↔◌}
-use native.Mathlib.Omega.{arith}
-use borrow.Author.Rules.{rules}
 use lib.ListN.{length}
 use Rattle.utf8.specs.Fit.{FitTo}
-use Rattle.utf8.proofs.Fit.{fit_turn}
 use Rattle.utf8.proofs.blocks.all_fit.Given as goal
 
 abbrev pub invariant-loop-i : goal.invariant-loop-i

@@ -1,12 +1,7 @@
 -- `ascii_blocks` meets its contract: what is passed is ASCII, and each block adds to it, the last up to the end.
 use Prim.Native.Nat.{◌-◌}
-use native.Mathlib.Omega.{arith}
-use borrow.Author.Count.{below_none}
-use borrow.Author.Rules.{rules}
-use borrow.Author.Tests.{not-false}
 use lib.ListN.{length}
 use Rattle.utf8.specs.Ascii.{AsciiStart}
-use Rattle.utf8.proofs.Ascii.{more-ascii, all_passed}
 use Rattle.utf8.proofs.blocks.ascii_blocks.Given as goal
 
 abbrev pub invariant-loop-at : goal.invariant-loop-at

@@ -1,6 +1,5 @@
 -- `block_fits` meets its contract: ASCII fits after ASCII.
 use mathlib.Core.Path.{refl}
-use borrow.Author.Rules.{rules}
 use Rattle.utf8.proofs.Fit.{ascii-fit}
 use Rattle.utf8.proofs.blocks.block_fits.Goals as goal
 

@@ -1,6 +1,5 @@
 -- `by_blocks` meets its contract: bytes that fit are valid, but for those of a character that goes on after them.
 use native.Mathlib.Omega.{arith}
-use borrow.Author.Rules.{rules}
 use Rattle.utf8.proofs.Valid.{empty}
 use Rattle.utf8.proofs.Ascii.{ascii-valid}
 use Rattle.utf8.proofs.Fit.{fitting_valid}

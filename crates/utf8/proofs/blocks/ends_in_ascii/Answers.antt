@@ -1,7 +1,6 @@
 -- `ends_in_ascii` meets its contract: what is asked of the last bytes is asked of s.
 use mathlib.Core.Bool.{false≢true}
 use native.Mathlib.Omega.{arith}
-use borrow.Author.Rules.{rules}
 use Rattle.utf8.proofs.Ascii.{ascii_end}
 use Rattle.utf8.proofs.blocks.ends_in_ascii.Goals as goal
 

@@ -1,10 +1,5 @@
 -- `fitting_blocks` meets its contract: what is passed fits, and each block adds to it.
-use Prim.Native.Nat.{◌-◌}
 use native.Mathlib.Omega.{arith}
-use borrow.Author.Rules.{rules}
-use borrow.Author.Tests.{not-false}
-use lib.ListN.{length}
-use Rattle.utf8.specs.Fit.{Fitting}
 use Rattle.utf8.proofs.Fit.{more-fits}
 use Rattle.utf8.proofs.blocks.fitting_blocks.Goals as goal
 

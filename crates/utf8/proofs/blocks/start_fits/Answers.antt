@@ -1,6 +1,5 @@
 -- `start_fits` meets its contract: the three tests, taken together.
 use mathlib.Core.Bool.{◌&&◌, and-eq-true_iff}
-use borrow.Author.Rules.{rules}
 use Rattle.utf8.proofs.blocks.start_fits.Goals as goal
 
 pub returns : goal.returns

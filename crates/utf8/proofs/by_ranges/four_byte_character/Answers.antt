@@ -1,7 +1,6 @@
 -- `four_byte_character` meets its contract: by the law of each first byte from F0 on.
 use mathlib.Core.Path.{◌∙◌}
 use native.Mathlib.Omega.{arith}
-use borrow.Author.Rules.{rules}
 use Rattle.paper.proofs.Utf8.{lead-F0, lead_f1, lead-F4, lead_none_high}
 use Rattle.utf8.proofs.Character.{by_lead}
 use Rattle.utf8.proofs.by_ranges.four_byte_character.Goals as goal

@@ -1,7 +1,6 @@
 -- `long_character` meets its contract: by the law of each first byte from 80 on.
 use mathlib.Core.Path.{◌∙◌}
 use native.Mathlib.Omega.{arith}
-use borrow.Author.Rules.{rules}
 use Rattle.paper.proofs.Utf8.{lead_none_low, lead_2}
 use Rattle.utf8.proofs.Character.{by_lead}
 use Rattle.utf8.proofs.by_ranges.long_character.Goals as goal

@@ -1,6 +1,5 @@
 -- `step_by_ranges` meets its contract: ASCII is valid, or a character is.
 use native.Mathlib.Omega.{arith}
-use borrow.Author.Rules.{rules}
 use Rattle.utf8.proofs.Longest.{run_step, character_step}
 use Rattle.utf8.proofs.by_ranges.step_by_ranges.Goals as goal
 

@@ -1,7 +1,6 @@
 -- `three_byte_character` meets its contract: by the law of each first byte from E0 to EF.
 use mathlib.Core.Path.{◌∙◌}
 use native.Mathlib.Omega.{arith}
-use borrow.Author.Rules.{rules}
 use Rattle.paper.proofs.Utf8.{lead-E0, lead-ED}
 use Rattle.utf8.proofs.Character.{by_lead, lead_3}
 use Rattle.utf8.proofs.by_ranges.three_byte_character.Goals as goal

@@ -1,6 +1,5 @@
 -- `of_class` meets its contract: a class says how many bytes follow, and which the second may be.
 use mathlib.Core.Path.{◌∙◌}
-use borrow.Author.Rules.{rules}
 use lib.ListN.{drop}
 use Rattle.paper.specs.Utf8.{begins}
 use Rattle.paper.specs.LeadBytes.{length_by}

@@ -1,7 +1,6 @@
 -- `step_by_table` meets its contract: ASCII is valid, or a character is, as long as its lead byte's class says, and a run of such ones.
 use mathlib.Core.Path.{sym, ◌∙◌}
 use native.Mathlib.Omega.{arith}
-use borrow.Author.Rules.{rules}
 use Rattle.utf8.proofs.Longest.{run_step, character_step}
 use Rattle.utf8.proofs.LeadBytes.{first_character, begins-with}
 use Rattle.utf8.proofs.by_table.step_by_table.Goals as goal

@@ -1,14 +1,10 @@
 -- `three_byte_run` meets its contract: what is passed is valid, and each character adds to it.
-use Prim.Native.Nat.{◌+◌, ◌-◌}
+use Prim.Native.Nat.{◌+◌}
 use mathlib.Core.Path.{◌≡◌, sym, ◌∙◌}
-use mathlib.Core.List.{[], ◌∷◌}
+use mathlib.Core.List.{◌∷◌}
 use native.Mathlib.Omega.{arith}
-use borrow.Author.Rules.{rules}
-use borrow.Author.Tests.{not-true, not-false}
-use lib.ListN.{length}
 use Rattle.paper.specs.Utf8.{tail}
 use Rattle.paper.specs.LeadBytes.{length_by}
-use Rattle.utf8.specs.Valid.{Valid}
 use Rattle.utf8.proofs.Valid.{empty}
 use Rattle.utf8.proofs.Character.{too_short_lem, long_enough}
 use Rattle.utf8.proofs.LeadBytes.{one_more_lem, run_ends}

@@ -1,10 +1,7 @@
 -- `ascii_run` meets its contract: what is passed is ASCII, byte by byte.
-use Prim.Native.Nat.{◌-◌}
 use native.Mathlib.Omega.{arith}
 use borrow.Author.Count.{below_more}
 use borrow.Author.Rules.{rules}
-use lib.ListN.{length}
-use Rattle.utf8.specs.Ascii.{AsciiStart}
 use Rattle.utf8.proofs.Ascii.{run_stops, run_ends}
 use Rattle.utf8.proofs.characters.ascii_run.Goals as goal
 

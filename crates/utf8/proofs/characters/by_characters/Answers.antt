@@ -1,9 +1,5 @@
 -- `by_characters` meets its contract: what is passed is valid, the ASCII at first too, and where no step can be made it is the longest.
-use Prim.Native.Nat.{◌-◌}
 use native.Mathlib.Omega.{arith}
-use borrow.Author.Rules.{rules}
-use lib.ListN.{length}
-use Rattle.utf8.specs.Valid.{Valid}
 use Rattle.utf8.proofs.Ascii.{ascii-valid}
 use Rattle.utf8.proofs.Longest.{turn, end}
 use Rattle.utf8.proofs.characters.by_characters.Goals as goal

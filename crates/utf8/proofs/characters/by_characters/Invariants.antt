@@ -1,11 +1,7 @@
 -- `by_characters` meets its contract: what is passed is valid, the ASCII at first too, and where no step can be made it is the longest.
 use Prim.Native.Nat.{◌-◌}
-use native.Mathlib.Omega.{arith}
-use borrow.Author.Rules.{rules}
 use lib.ListN.{length}
 use Rattle.utf8.specs.Valid.{Valid}
-use Rattle.utf8.proofs.Ascii.{ascii-valid}
-use Rattle.utf8.proofs.Longest.{turn, end}
 use Rattle.utf8.proofs.characters.by_characters.Given as goal
 
 abbrev pub invariant-loop-by_table : goal.invariant-loop-by_table

@@ -1,5 +1,4 @@
 -- `step` meets its contract: nothing is left, or the lead byte decides, either way.
-use borrow.Author.Rules.{rules}
 use Rattle.utf8.proofs.Longest.{nothing_left}
 use Rattle.utf8.proofs.characters.step.Goals as goal
 

@@ -1,8 +1,6 @@
 -- `three_bytes` meets its contract: the tests that the code makes are those of the ranges, byte by byte.
-use mathlib.Core.List.{[], ◌∷◌}
+use mathlib.Core.List.{◌∷◌}
 use native.Mathlib.Omega.{arith}
-use borrow.Author.Tests.{not-true, not-false}
-use borrow.Author.Rules.{rules}
 use Rattle.paper.specs.Utf8.{tail}
 use Rattle.utf8.proofs.Character.{too_short_lem, long_enough}
 use Rattle.utf8.proofs.characters.three_bytes.Goals as goal

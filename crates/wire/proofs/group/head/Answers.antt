@@ -3,7 +3,6 @@ use mathlib.Core.Path.{ap, ◌∙◌}
 use native.Mathlib.Omega.{arith}
 use Rattle.paper.proofs.Places.{of_one}
 use Rattle.wire.specs.Prefix.{prefix_len}
-use borrow.Author.Rules.{rules}
 use Rattle.wire.proofs.group.head.Goals as goal
 
 pub bounds-s-at : goal.bounds-s-at

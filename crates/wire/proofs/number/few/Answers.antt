@@ -1,8 +1,6 @@
 -- `wire::number::few` meets its contract. Invariant: the number so far is that of the bytes passed, and fits in as many bytes.
 use mathlib.Core.Path.{◌≡◌, refl, sym}
-use Prim.Native.Nat.{◌+◌, ◌-◌, ◌^◌, ◌≤◌, ◌<◌}
 use native.Mathlib.Omega.{arith}
-use lib.ListN.{take, drop}
 use borrow.Author.Rules.{rules}
 use Rattle.paper.specs.Bytes.{of_bytes}
 use Rattle.paper.proofs.Places.{of_next, below_next}

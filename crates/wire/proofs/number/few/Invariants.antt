@@ -1,12 +1,8 @@
 -- `wire::number::few` meets its contract. Invariant: the number so far is that of the bytes passed, and fits in as many bytes.
-use mathlib.Core.Path.{◌≡◌, refl, sym}
-use Prim.Native.Nat.{◌+◌, ◌-◌, ◌^◌, ◌≤◌, ◌<◌}
-use native.Mathlib.Omega.{arith}
+use mathlib.Core.Path.{◌≡◌}
+use Prim.Native.Nat.{◌-◌, ◌^◌, ◌≤◌, ◌<◌}
 use lib.ListN.{take, drop}
-use borrow.Author.Rules.{rules}
 use Rattle.paper.specs.Bytes.{of_bytes}
-use Rattle.paper.proofs.Places.{of_next, below_next}
-use Rattle.wire.proofs.Runs.{in_half}
 use Rattle.wire.proofs.number.few.Given as goal
 
 abbrev pub invariant-loop-i : goal.invariant-loop-i

@@ -3,7 +3,6 @@ use mathlib.Core.Path.{◌≡◌, ap, ◌∙◌}
 use Prim.Native.Nat.{ℕ, ◌+◌, ◌-◌}
 use native.Mathlib.Omega.{arith}
 use lib.ListN.{take, drop}
-use borrow.Author.Rules.{rules}
 use Rattle.paper.specs.Bytes.{of_bytes}
 use Rattle.wire.proofs.Runs.{of_run}
 use Rattle.wire.proofs.number.gather.Goals as goal

@@ -1,7 +1,6 @@
 -- `wire::number::pair` meets its contract: the high byte 256 times, and the low byte.
 use native.Mathlib.Omega.{arith}
 use Rattle.paper.proofs.Places.{of_two}
-use borrow.Author.Rules.{rules}
 use Rattle.wire.proofs.number.pair.Goals as goal
 
 pub returns : goal.returns

@@ -2,7 +2,6 @@
 use native.Mathlib.Omega.{arith}
 use Rattle.paper.proofs.Places.{counted-short, counted-cut, counted_there}
 use Rattle.wire.proofs.Prefixes.{prefix_some}
-use borrow.Author.Rules.{rules}
 use Rattle.wire.proofs.place.counted_at.Goals as goal
 
 pub returns-then-available-before : goal.returns-then-available-before

@@ -1,7 +1,6 @@
 -- `wire::place::part_at` meets its contract: of each branch's part, where it begins and what it holds.
 use native.Mathlib.Omega.{arith}
 use Rattle.wire.proofs.Parts.{part-within, part_to_end, part_past}
-use borrow.Author.Rules.{rules}
 use Rattle.wire.proofs.place.part_at.Goals as goal
 
 pub returns-then-len-s : goal.returns-then-len-s

@@ -1,7 +1,6 @@
 -- `wire::size::larger` meets its contract: what the order says of the two values.
 use mathlib.Core.Path.{sym, ap, ◌∙◌}
 use native.Mathlib.Nat.{max-eq_left, max-eq_right, le_of_lt, le_of_eq}
-use borrow.Author.Rules.{rules}
 use Rattle.wire.specs.Size.{order_of}
 use Rattle.wire.specs.declared.size.Order.TheVariants.{Less, Equal, Greater}
 use Rattle.wire.proofs.Sizes.{told}

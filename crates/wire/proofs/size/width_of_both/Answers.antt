@@ -1,8 +1,7 @@
 -- `wire::size::width_of_both` meets its contract: the larger size's width is the width of both.
 use mathlib.Core.Path.{subst}
-use mathlib.Core.List.{[], ◌∷◌}
+use mathlib.Core.List.{◌∷◌}
 use Prim.Native.Nat.{ℕ}
-use borrow.Author.Rules.{rules}
 use Rattle.paper.specs.Sizes.{Smallest}
 use Rattle.wire.proofs.Sizes.{of_larger}
 use Rattle.wire.proofs.size.width_of_both.Goals as goal

@@ -1,10 +1,8 @@
 -- `wire::write::put_half` meets its contract. The invariant: the bytes still to come, in front of what is written, are what is to be there at the end.
-use Prim.Native.Nat.{suc, ◌-◌, ◌^◌, ◌≤◌, ◌<◌}
+use Prim.Native.Nat.{suc, ◌-◌, ◌^◌, ◌<◌}
 use mathlib.Core.Path.{◌≡◌}
-use mathlib.Core.List.{◌++◌}
 use native.Mathlib.Omega.{arith}
-use borrow.Author.Rules.{rules}
-use lib.ListN.{length, drop, length-set}
+use lib.ListN.{length-set}
 use Rattle.paper.specs.Answer.{over}
 use Rattle.paper.specs.Bytes.{to_bytes}
 use Rattle.paper.proofs.Bytes.{length_to_bytes}

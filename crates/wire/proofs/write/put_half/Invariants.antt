@@ -1,14 +1,9 @@
 -- `wire::write::put_half` meets its contract. The invariant: the bytes still to come, in front of what is written, are what is to be there at the end.
-use Prim.Native.Nat.{suc, ◌-◌, ◌^◌, ◌≤◌, ◌<◌}
+use Prim.Native.Nat.{◌^◌, ◌≤◌, ◌<◌}
 use mathlib.Core.Path.{◌≡◌}
 use mathlib.Core.List.{◌++◌}
-use native.Mathlib.Omega.{arith}
-use borrow.Author.Rules.{rules}
-use lib.ListN.{length, drop, length-set}
-use Rattle.paper.specs.Answer.{over}
+use lib.ListN.{length, drop}
 use Rattle.paper.specs.Bytes.{to_bytes}
-use Rattle.paper.proofs.Bytes.{length_to_bytes}
-use Rattle.wire.proofs.FieldBytes.{fits-less, low_store}
 use Rattle.wire.proofs.write.put_half.Given as goal
 
 abbrev pub invariant-loop-i : goal.invariant-loop-i

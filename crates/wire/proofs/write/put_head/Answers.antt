@@ -1,7 +1,6 @@
 -- `wire::write::put_head` meets its contract: the prefix holds the number, which stands in its one byte or in its two.
 use mathlib.Core.Path.{ap}
 use native.Mathlib.Omega.{arith}
-use borrow.Author.Rules.{rules}
 use Rattle.wire.specs.Prefix.{prefix_most}
 use Rattle.wire.proofs.FieldBytes.{one_byte}
 use Rattle.wire.proofs.write.put_head.Goals as goal

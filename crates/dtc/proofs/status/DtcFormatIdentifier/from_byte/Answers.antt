@@ -2,7 +2,6 @@
 use Prim.Native.Nat.{suc, ◌-◌}
 use mathlib.Core.Path.{◌≡◌, refl}
 use native.Mathlib.Omega.{arith}
-use borrow.Author.Rules.{rules}
 use Rattle.dtc.proofs.status.DtcFormatIdentifier.from_byte.Goals as goal
 
 pub returns-in_default : goal.returns-in_default

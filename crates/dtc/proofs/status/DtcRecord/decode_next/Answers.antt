@@ -1,6 +1,5 @@
 -- `dtc::status::DtcRecord::decode_next` meets its contract: the message has ended, or the next record is as `decode` has it.
 use native.Mathlib.Omega.{arith}
-use borrow.Author.Rules.{rules}
 use Rattle.dtc.proofs.Records.{next-none, next_there, next-refused}
 use Rattle.dtc.proofs.status.DtcRecord.decode_next.Goals as goal
 

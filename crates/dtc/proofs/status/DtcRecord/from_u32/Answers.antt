@@ -1,6 +1,5 @@
 -- `dtc::status::DtcRecord::from_u32` meets its contract: the code's test of the bound settles the paper's, and the three bytes are the paper's.
 use native.Mathlib.Omega.{arith}
-use borrow.Author.Rules.{rules}
 use borrow.Author.Tests.{le-leb, lt-leb}
 use Rattle.paper.specs.TroubleCode.{from_number}
 use Rattle.dtc.proofs.status.DtcRecord.from_u32.Goals as goal

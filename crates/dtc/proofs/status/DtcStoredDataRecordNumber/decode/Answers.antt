@@ -1,6 +1,5 @@
 -- `dtc::status::DtcStoredDataRecordNumber::decode` meets its contract: the reader of one byte is right, and the value holds that byte.
 use mathlib.Core.Path.{refl}
-use borrow.Author.Rules.{rules}
 use Rattle.dtc.proofs.OneByte.{byte_missing, byte_there}
 use Rattle.dtc.proofs.status.DtcStoredDataRecordNumber.decode.Goals as goal
 

@@ -1,6 +1,5 @@
 -- `dtc::status::FunctionalGroupIdentifier::decode` meets its contract: the reader of one byte is right, and the group is the one of that byte.
 use mathlib.Core.Path.{sym, ap, ◌∙◌}
-use borrow.Author.Rules.{rules}
 use Rattle.paper.specs.TroubleCode.{group_of}
 use Rattle.dtc.proofs.OneByte.{byte_missing, byte_there}
 use Rattle.dtc.proofs.status.FunctionalGroupIdentifier.decode.Goals as goal

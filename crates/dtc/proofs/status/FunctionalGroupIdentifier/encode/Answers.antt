@@ -1,5 +1,4 @@
 -- `dtc::status::FunctionalGroupIdentifier::encode` meets its contract: the byte that `put_byte` writes is the group's.
-use borrow.Author.Rules.{rules}
 use Rattle.dtc.proofs.status.FunctionalGroupIdentifier.encode.Goals as goal
 
 pub returns : goal.returns

@@ -4,7 +4,6 @@ use lib.Dec.{leb}
 use Rattle.routine_control.specs.SubFunction.{sub_said, sub_refusal, control_of, suppressable}
 use Rattle.routine_control.specs.declared.sub_function.SubFunctionAnswer.{SubFunctionAnswer}
 use Rattle.wire.proofs.Left.{left-answer}
-use borrow.Author.Rules.{rules}
 use Rattle.routine_control.proofs.sub_function.SuppressablePositiveResponse.from_byte.Goals as goal
 
 pub returns-in_default : goal.returns-in_default

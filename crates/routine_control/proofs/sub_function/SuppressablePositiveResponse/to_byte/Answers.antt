@@ -2,7 +2,6 @@
 use native.Mathlib.Omega.{arith}
 use Rattle.routine_control.specs.SubFunction.{sub_of}
 use Rattle.routine_control.proofs.Codes.{small_code}
-use borrow.Author.Rules.{rules}
 use Rattle.routine_control.proofs.sub_function.SuppressablePositiveResponse.to_byte.Goals as goal
 
 pub overflow_add-result : goal.overflow_add-result

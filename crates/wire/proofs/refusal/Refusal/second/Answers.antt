@@ -1,5 +1,4 @@
 -- `wire::refusal::Refusal::second` meets its contract: each arm's variant says its row; where it carries two values, the row is rewritten by what the arm knows of the variant.
-use borrow.Author.Rules.{rules}
 use Rattle.wire.proofs.refusal.Refusal.second.Goals as goal
 
 pub returns-in-TooShort : goal.returns-in-TooShort
