@@ -1,7 +1,7 @@
 -- `form::put_hex` meets its contract: the two digits, the high one first.
 use mathlib.Core.Path.{ap₂}
 use Prim.Native.Nat.{ℕ}
-use mathlib.Core.List.{◌∷◌}
+use mathlib.Core.List.{[], ◌∷◌}
 use lib.Dec.{lit≤}
 use Rattle.form.proofs.Grown.{put_as}
 use Rattle.form.proofs.put_hex.Goals as goal

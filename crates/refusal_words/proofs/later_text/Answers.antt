@@ -1,6 +1,7 @@
 -- `refusal_words::later_text` meets its contract: the words of each number, letter by letter, and no other number has any.
 use Rattle.wire.proofs.Writes.{malformed}
 use Rattle.paper.specs.Kind.{one_of}
+use mathlib.Core.List.{[]}
 use Rattle.refusal_words.specs.Words.{document02, among}
 use Rattle.refusal_words.proofs.Words.{past}
 use Rattle.refusal_words.proofs.later_text.Goals as goal

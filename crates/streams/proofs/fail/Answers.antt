@@ -1,5 +1,5 @@
 -- The four writes put their bytes one behind the other.
-use Rattle.std.proofs.Common.{◌∷◌, ◌++◌, append_assoc, ◌∙◌, subst}
+use Rattle.std.proofs.Common.{[], ◌∷◌, ◌++◌, append_assoc, ◌∙◌, subst}
 use Rattle.std.specs.Io.KnownBytes.{Appends}
 use Rattle.std.proofs.KnownBytes.{Appends-trans}
 use Rattle.streams.proofs.fail.Goals as goal

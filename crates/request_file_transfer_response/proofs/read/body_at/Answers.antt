@@ -1,5 +1,6 @@
 -- `request_file_transfer_response::read::body_at` meets its contract: nothing, or block length, format byte and more, one after the other; a field's refusal is the answer's.
 use mathlib.Core.Path.{ap, subst}
+use mathlib.Core.List.{[]}
 use native.Mathlib.Omega.{arith}
 use Rattle.paper.specs.Field.{block_length, byte}
 use Rattle.paper.proofs.Places.{on, off}

@@ -1,7 +1,7 @@
 -- `three_byte_run` meets its contract: what is passed is valid, and each character adds to it.
 use Prim.Native.Nat.{◌+◌}
 use mathlib.Core.Path.{◌≡◌, sym, ◌∙◌}
-use mathlib.Core.List.{◌∷◌}
+use mathlib.Core.List.{[], ◌∷◌}
 use native.Mathlib.Omega.{arith}
 use Rattle.paper.specs.Utf8.{tail}
 use Rattle.paper.specs.LeadBytes.{length_by}

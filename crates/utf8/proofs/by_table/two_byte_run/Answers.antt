@@ -1,5 +1,5 @@
 -- `two_byte_run` meets its contract: what is passed is valid, and each character adds to it.
-use mathlib.Core.List.{◌∷◌}
+use mathlib.Core.List.{[], ◌∷◌}
 use native.Mathlib.Omega.{arith}
 use lib.ListN.{get_or}
 use Rattle.paper.specs.Utf8.{tail}

@@ -1,5 +1,5 @@
 -- `three_bytes` meets its contract: the tests that the code makes are those of the ranges, byte by byte.
-use mathlib.Core.List.{◌∷◌}
+use mathlib.Core.List.{[], ◌∷◌}
 use native.Mathlib.Omega.{arith}
 use Rattle.paper.specs.Utf8.{tail}
 use Rattle.utf8.proofs.Character.{too_short_lem, long_enough}

@@ -1,6 +1,6 @@
 -- `wire::size::width_of_both` meets its contract: the larger size's width is the width of both.
 use mathlib.Core.Path.{subst}
-use mathlib.Core.List.{◌∷◌}
+use mathlib.Core.List.{[], ◌∷◌}
 use Prim.Native.Nat.{ℕ}
 use Rattle.paper.specs.Sizes.{Smallest}
 use Rattle.wire.proofs.Sizes.{of_larger}
