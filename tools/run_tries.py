@@ -205,10 +205,10 @@ def stand_ins(folder, repo, machine):
         open(os.path.join(folder, "crates", name, "src", "main.rt"), "w", encoding="ascii").close()
     open(os.path.join(folder, "crates.txt"), "w", encoding="ascii").close()
     doing = {"cat": "cat", "words": r"""printf '%s\n' "$#" "$@" """}
-    scripts = {f"target/bin/{name}": doing.get(name, 'eval "$1"') for name in programs}
+    scripts = {f"crates/{name}/out/{name}": doing.get(name, 'eval "$1"') for name in programs}
     scripts["fake/uname"] = f"echo {machine}"
-    scripts["fake/rt"] = f"[ $1 = doc ] && echo {folder}/docs/START-HERE.md"
-    scripts["on/aarch64/toolchain/bin/qemu-x86_64"] = '[ "$2" = --library-path ] && shift 3 && machine=emulated exec "$@"'
+    scripts["fake/rt"] = f"[ $1 = doc ] && echo {folder}/START-HERE.md"
+    scripts["fake/qemu-x86_64"] = f'[ "$1 $2 $3" = "{folder}/toolchain/lib/ld-linux-x86-64.so.2 --library-path {folder}/toolchain/lib" ] && shift 3 && machine=emulated exec "$@"'
     for path, text in scripts.items():
         path = os.path.join(folder, path)
         os.makedirs(os.path.dirname(path), exist_ok=True)
