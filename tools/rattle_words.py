@@ -1,7 +1,8 @@
 #!/usr/bin/env python3
 """The words by which `rattle`, the prover below `rt`, checks or builds one crate over the libraries that stand proved in the folders out/ of the crates below it.
 
-usage: rattle_words.py CRATE     proves and builds the libraries below the crate where that has to be done, and prints the words, a line each
+usage: rattle_words.py CRATE       proves and builds the libraries below the crate where that has to be done, and prints the words, a line each
+       rattle_words.py 'NAME: ..'  the same of a library that crates.txt does not list, by the line that would stand there for it
 
 What `rt ci` leaves in a clean checkout serves, and so does what `rt check` and `rt lib` keep. `rt` itself takes nothing of what `rt ci` leaves, and would prove every crate below once more.
 """
@@ -28,10 +29,15 @@ class Repository:
     def __init__(self, top):
         self.top, self.kit, self.needs, self.static = pathlib.Path(top).resolve(), kit(), {}, set()
         for line in (self.top / "crates.txt").read_text(encoding="utf-8").split("\n"):
-            found = re.match(r"(\w+)( +staticlib)?\s*(?::(.*))?$", line.partition("#")[0].strip())
-            if found:
-                self.needs[found[1]] = (found[3] or "").split()
-                self.static |= {found[1]} if found[2] else set()
+            self.list(line)
+
+    def list(self, line):
+        """Takes in a line of crates.txt, and answers the name of its crate."""
+        found = re.match(r"(\w+)( +staticlib)?\s*(?::(.*))?$", line.partition("#")[0].strip())
+        if found:
+            self.needs[found[1]] = (found[3] or "").split()
+            self.static |= {found[1]} if found[2] else set()
+        return found and found[1]
 
     def folder(self, crate):
         return self.top / "crates" / crate
@@ -108,9 +114,10 @@ def main():
     top = top_above(pathlib.Path.cwd())
     if len(sys.argv) != 2 or not top:
         sys.exit(__doc__)
-    repository, crate = Repository(top), sys.argv[1]
+    repository = Repository(top)
+    crate = repository.list(sys.argv[1]) if ":" in sys.argv[1] else sys.argv[1]
     if crate not in repository.needs:
-        sys.exit(f"rattle_words: crates.txt lists no crate {crate}")
+        sys.exit(f"rattle_words: crates.txt lists no crate {sys.argv[1]}")
     if not repository.build(repository.below(crate)):
         return 1
     print(*[repository.rattle(), *repository.words(crate)], sep="\n")
