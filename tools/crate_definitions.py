@@ -23,7 +23,7 @@ ONE_IN = 4
 
 def keys(name):
     """The words by which a name can be mentioned: an operator has one for each of its parts."""
-    return {part for part in name.split("_") if part}
+    return {part for part in name.split("◌") if part}
 
 
 def words_of(text):
@@ -91,9 +91,9 @@ class Definitions:
 
     def all_of(self, module):
         """The pieces of a module of this crate, as pairs of a file and a number; none for a module of another."""
-        library, *path = module.split(".")
+        first, crate, *path = [*module.split("."), ""][:2] + module.split(".")[2:]
         file = "/".join(path) + ".antt"
-        known = library in (f"Rattle·{self.crate}·specs", f"Rattle·{self.crate}·proofs") and file in self.pieces
+        known = (first, crate) == ("Rattle", self.crate) and file in self.pieces
         return {(file, i) for i in range(len(self.pieces[file]))} if known else set()
 
     def scope(self, file):
@@ -117,7 +117,7 @@ class Definitions:
         if not self.pieces[file][i].names:
             return set()
         words, scope = words_of(self.pieces[file][i].text), self.scope(file)
-        if any(word.startswith("Rattle·") for word in words):
+        if "Rattle" in words:
             return {(other, j) for other, pieces in self.pieces.items() for j in range(len(pieces))}
         return {(file, j) for j, piece in enumerate(self.pieces[file]) if not piece.names}.union(*(scope[word] for word in words if word in scope))
 

@@ -1,10 +1,11 @@
 """The functions of a crate's code: what the check calls each, which changes touch it, and whether the check refuses it for its own sake.
 
 A function is proved over the contracts of those that it calls, not over their bodies. So changes in the bodies of several functions can be tried by one check, whoever
-calls whom: a need of a function that is not met, in its own file of proofs/ or by the search where it has none, is the fault of its own body. Where one that it calls is
-not proved, only its closing line falls, and the check says that something else was not admitted: that settles nothing.
+calls whom: a goal of a function that is not met, in its own folder of proofs/ or by the search where it has no answer there, is the fault of its own body. That one which it calls is
+not proved, or that its own proof names what is gone, settles nothing.
 """
 import collections
+import os
 import re
 
 import drawn_changes
@@ -13,7 +14,8 @@ Part = collections.namedtuple("Part", "name text")
 HEAD = re.compile(r"^(?:impl(?:<[^>]*>)? (?P<type>\w+)|(?P<close>\})|(?:[^/\n]*\b)?fn\s+(?P<fn>\w+))", re.M)
 CONSTANT = re.compile(r"^[^/\n]*\bconst (\w+): [^=\n]*=([^;]*(?:;[^;\n]+)*);$", re.M)
 CONTRACT = "the contract of "
-FOLLOWS = "was not admitted"
+# what a proof says that names something which is gone, or that rests on what is refused
+FOLLOWS = re.compile(r"was not admitted|has no field|is not in scope|has no `")
 
 
 def module_of(crate, file):
@@ -106,17 +108,18 @@ class Functions:
         """Whether a contract is read: by a function that calls this one, or by a file of proofs/ that is not its own."""
         own, word = self.proof_of(function), function.split("::")[-1]
         return any(part.name in self.names and re.search(rf"\b{word}\s*\(", part.text) for part in self.all_parts()) or any(
-            re.search(rf"\b{word}\b", text) for file, text in self.laws.items() if file != own
+            re.search(rf"\b{word}\b", text) for file, text in self.laws.items() if not file.startswith(own)
         )
 
     def is_opened(self, function):
-        """Whether a file of proofs/ that is not its own names what the check makes of a function's body."""
+        """Whether a file of proofs/ that is not the function's own names what the check makes of its body."""
         path = "\\.".join(function.split("::")[1:])
-        return any(re.search(rf"\.{path}\.(?:Code|Lts|Tie)\b", text.replace("«", "").replace("»", "")) for file, text in self.laws.items() if file != self.proof_of(function))
+        return any(re.search(rf"\.{path}\.(?:Code|Lts|Tie|Goals)\b", text.replace("«", "").replace("»", "")) for file, text in self.laws.items() if not file.startswith(self.proof_of(function)))
 
     @staticmethod
     def proof_of(function):
-        return "/".join(["proofs", *function.split("::")[1:], "Proof.antt"])
+        """How the names of a function's own files of proofs/ begin."""
+        return "/".join(["proofs", *function.split("::")[1:], ""])
 
     # ---- changes tried together
 
@@ -138,11 +141,12 @@ class Functions:
 
     def refused(self, touched, files, said):
         """Where the check refuses each change for its own sake; None for one of which it does not say so, and for all where it refuses a function that none of them touches."""
-        own = {name: name for name in re.findall(r"^fn (\S+): .*`search` does not close", said.text, re.M)}
-        functions = {self.proof_of(name): name for name in self.names}
+        own = {name: name for name in re.findall(r"^fn (\S+): .*`search` did not prove", said.text, re.M)}
+        folders = {self.proof_of(name): name for name in self.names}
         for error in said.errors():
-            if error.file in functions and FOLLOWS not in error.words:
-                own.setdefault(functions[error.file], error.place)
+            folder = f"{os.path.dirname(error.file)}/"
+            if folder in folders and not FOLLOWS.search(error.words):
+                own.setdefault(folders[folder], error.place)
         if not own.keys() <= frozenset().union(*touched):
             return [None] * len(touched)
         return [next((own[name] for name in sorted(names) if name in own), None) for names in touched]
