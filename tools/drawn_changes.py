@@ -35,7 +35,7 @@ class Change(collections.namedtuple("Change", "crate file text start end new sor
 
 def imported_beside(text, old, new):
     """Definitions that import a new name with the old one."""
-    old, new = (name if name.isalnum() else f"_{name}_" for name in (old, new))
+    old, new = (name if re.fullmatch(r"\w+", name) else f"◌{name}◌" for name in (old, new))
 
     def more(line):
         names = line[2].split(", ")
@@ -123,7 +123,7 @@ def letters(text, start, end):
 # ---- code
 
 CODE = re.compile(r"//[^\n]*|b\"(?:[^\"\\]|\\.)*\"|b'(?:[^'\\]|\\.)'|'[a-z]\w*|0x[0-9A-Fa-f_]+|\d[\d_]*|\w+|::|->|=>|<=|>=|==|!=|&&|\|\||\+=|-=|\*=|/=|\.\.=|\.\.|<<|>>|\s+|.", re.S)
-CLAUSE = re.compile(r"\s*(?:requires|ensures|ghost)\b\s*\{")
+CLAUSE = re.compile(r"\s*(?:requires|ensures|ghost)\b\*?\s*(?:\w+\s*)?\{")
 TURNED = {"<": ["<=", ">"], "<=": ["<", ">="], ">": [">=", "<"], ">=": [">", "<="], "==": ["!="], "!=": ["=="]}
 OPERATORS = {"+": ["-"], "-": ["+"], "*": ["+"], "/": ["%"], "%": ["/"], "&&": ["||"], "||": ["&&"], "&": ["|"], "|": ["&"], "+=": ["-="], "-=": ["+="], "<<": [">>"], ">>": ["<<"]}
 
@@ -256,7 +256,8 @@ def in_statements(text, tokens, partner):
 
 # ---- definitions
 
-DEFINITION = re.compile(r"--[^\n]*|\"(?:[^\"\\]|\\.)*\"|«[^»]*»|[(){}\[\],;]|[^\s(){}\[\],;«»]+|\s+")
+# what follows a value and its dot, a field, is a token of its own
+DEFINITION = re.compile(r"--[^\n]*|\"(?:[^\"\\]|\\.)*\"|«[^»]*»|[(){}\[\],;]|\.[\w'-]+|(?:(?!\.\w)[^\s(){}\[\],;«»])+|\s+")
 COMPARISONS = {"≤": ["<"], "<": ["≤"], "leb": ["ltb"], "ltb": ["leb"]}
 SPEC_OPERATORS = {"+": ["*", "-"], "*": ["+"], "-": ["+"], "/": ["%"], "%": ["/"], "both": ["either"], "either": ["both"], "take": ["drop"], "drop": ["take"]}
 
@@ -314,6 +315,8 @@ def atoms(tokens, partner, at):
     found = []
     while at < len(tokens) and tokens[at].text not in CLOSING and tokens[at].text not in ("=", "∷", ",", ";"):
         past = partner.get(at, at) + 1
+        while past < len(tokens) and tokens[past].text.startswith(".") and tokens[past].start == tokens[past - 1].end:
+            past += 1
         found.append((at, past))
         at = past
     return found
