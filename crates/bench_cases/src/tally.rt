@@ -29,7 +29,7 @@ fn print_row(rt: &impl Print, what: &[u8], right: bool) -> io::Result<()> {
 }
 
 // `right` is whether the functions answered what the row says.
-fn row(t: Tally, right: bool) -> Tally
+pub(crate) fn row(t: Tally, right: bool) -> Tally
     ensures { result ≡ counted t right }
 {
     let rows = wrapping_add_u64(t.rows, 1);
