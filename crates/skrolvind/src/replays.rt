@@ -1,7 +1,7 @@
 // Recorded transfers: a whole log, and one record after a state.
 ghost use Rattle.std.specs.Prelude.{◌≡◌};
 ghost use Rattle.paper.specs.Replay.{replayed, stepped_once, log_record};
-ghost use Rattle.archive.specs.Replays.{has_last, replay_record};
+ghost use Rattle.archive.specs.Replays.{replay_record};
 ghost use Rattle.archive.specs.Replays.{state_handed};
 
 use archive::replays::ReplayRecord;
