@@ -1,18 +1,18 @@
 -- What a writer promises, and the bytes of the fields that messages share.
-use Rattle.std.specs.Prelude.{ℕ, ◌≤◌, ◌≡◌, List, length, leb}
+use Rattle.std.specs.Prelude.{ℕ, ◌≤◌, ◌≡◌, List, length, leb, Result, Ok, Err}
 use Rattle.paper.specs.Answer.{Answer, accepted, refused, wrong_format, check, over, written}
 use Rattle.paper.specs.Sizes.{width}
 use Rattle.paper.specs.Field.{with_count, sizes_at}
 use Rattle.wire.specs.Refusals.{row}
-use Rattle.wire.specs.declared.write.WriteAnswer.{WriteAnswer}
+use Rattle.wire.specs.declared.refusal.Refusal.{Refusal}
 
 -- what an answer says on paper
-abbrev pub told : WriteAnswer → Answer ℕ
-told (WriteAnswer.Accepted n) = accepted n
-told (WriteAnswer.Refused e) = refused (row e)
+abbrev pub told : Result ℕ Refusal → Answer ℕ
+told (Ok n) = accepted n
+told (Err e) = refused (row e)
 
 -- a writer's promise: the answer and the contents of the whole buffer are the paper's
-pub record Wrote (message : Answer (List ℕ)) (old : List ℕ) (r : WriteAnswer) (new : List ℕ) : Type 0 where
+pub record Wrote (message : Answer (List ℕ)) (old : List ℕ) (r : Result ℕ Refusal) (new : List ℕ) : Type 0 where
   pub answer : told r ≡ (written message old).answer
   pub contents : new ≡ (written message old).contents
 

@@ -5,5 +5,5 @@ ghost use Rattle.std.specs.Prelude.{◌≡◌, ◌-◌, length};
 pub fn available_at(s: &[u8], at: usize) -> usize
     ensures { result ≡ length s.now - at }
 {
-    if at <= s.len() { s.len() - at } else { 0 }
+    s.len().saturating_sub(at)
 }

@@ -1,8 +1,7 @@
 // Parts of the message: a run of bytes after its count, handed back as a place, and the very part at a place.
 ghost use Rattle.std.specs.Prelude.{◌≡◌};
 ghost use Rattle.wire.specs.Prefix.{prefix_len};
-ghost use Rattle.wire.specs.Reading.{refusal_in};
-ghost use Rattle.wire.specs.Place.{seen_place, CountedRight, IsPart};
+ghost use Rattle.wire.specs.Place.{CountedRight, IsPart};
 
 use crate::available::available_at;
 use crate::group::head;
@@ -10,39 +9,20 @@ use crate::prefix::Prefix;
 use crate::refusal::Refusal;
 
 // A part of a message: where it begins and how many bytes it has.
-#[derive(Clone, Copy)]
+#[derive(Clone, Copy, Debug, PartialEq, Eq)]
 pub struct Place {
     pub start: usize,
     pub len: usize,
 }
 
-// A place and where the next field begins, or the refusal.
-#[derive(Clone, Copy)]
-pub enum PlaceAnswer {
-    Accepted(Place, usize),
-    Refused(Refusal),
-}
-
-impl PlaceAnswer {
-    // The refusal with which a caller leaves; a place that was accepted has none, and WrongFormat stands in.
-    pub fn refusal(self) -> Refusal
-        ensures { result ≡ refusal_in (seen_place self) }
-    {
-        match self {
-            PlaceAnswer::Refused(e) => e,
-            PlaceAnswer::Accepted(_, _) => Refusal::WrongFormat { good: 0 },
-        }
-    }
-}
-
-// A count in one or two bytes, and so many bytes after it.
-pub fn counted_at(prefix: Prefix, s: &[u8], at: usize) -> PlaceAnswer
+// A count in one or two bytes, and so many bytes after it: their place, and where the next field begins.
+pub fn counted_at(prefix: Prefix, s: &[u8], at: usize) -> Result<(Place, usize), Refusal>
     ensures { CountedRight (prefix_len prefix) s.now at result }
 {
     let available = available_at(s, at);
     let before = prefix.len();
     if available < before {
-        return PlaceAnswer::Refused(Refusal::TooShort {
+        return Err(Refusal::TooShort {
             needed: before,
             available,
         });
@@ -50,10 +30,10 @@ pub fn counted_at(prefix: Prefix, s: &[u8], at: usize) -> PlaceAnswer
     let len = head(prefix, s, at);
     let needed = before + len;
     if available < needed {
-        return PlaceAnswer::Refused(Refusal::TooShort { needed, available });
+        return Err(Refusal::TooShort { needed, available });
     }
     let start = at + before;
-    PlaceAnswer::Accepted(Place { start, len }, start + len)
+    Ok((Place { start, len }, start + len))
 }
 
 // The very part of `s` at a place, as much of it as `s` has: no byte is copied.

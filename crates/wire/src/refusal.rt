@@ -2,7 +2,7 @@
 ghost use Rattle.std.specs.Prelude.{◌≡◌};
 ghost use Rattle.wire.specs.Refusals.{row};
 
-#[derive(Clone, Copy)]
+#[derive(Clone, Copy, Debug, PartialEq, Eq)]
 pub enum Refusal {
     // 1: the field at hand has fewer bytes than it needs, both counted from the start of the field.
     TooShort { needed: usize, available: usize },
@@ -49,27 +49,24 @@ impl Refusal {
         ensures { result ≡ (row self).number }
     {
         match self {
-            Refusal::TooShort {
-                needed: _,
-                available: _,
-            } => 1,
-            Refusal::WrongFormat { good: _ } => 2,
+            Refusal::TooShort { .. } => 1,
+            Refusal::WrongFormat { .. } => 2,
             Refusal::UnknownMode(_) => 3,
             Refusal::UnknownSubFunction(_) => 4,
             Refusal::NoTroubleCode(_) => 5,
             Refusal::BadWidth(_) => 6,
-            Refusal::NoRoom { needed: _, room: _ } => 7,
+            Refusal::NoRoom { .. } => 7,
             Refusal::UnequalSizes => 8,
             Refusal::LeftOver(_) => 9,
             Refusal::Cut => 10,
-            Refusal::OutOfRange { place: _ } => 11,
+            Refusal::OutOfRange { .. } => 11,
             Refusal::TooMany => 12,
-            Refusal::NotAllowed { place: _ } => 13,
-            Refusal::WrongCounter { place: _ } => 14,
-            Refusal::UnknownService { place: _ } => 15,
+            Refusal::NotAllowed { .. } => 13,
+            Refusal::WrongCounter { .. } => 14,
+            Refusal::UnknownService { .. } => 15,
             Refusal::NoSuchCode => 16,
-            Refusal::Repeated { place: _ } => 17,
-            Refusal::BadCharacter { place: _ } => 18,
+            Refusal::Repeated { .. } => 17,
+            Refusal::BadCharacter { .. } => 18,
         }
     }
 
@@ -78,27 +75,21 @@ impl Refusal {
         ensures { result ≡ (row self).first }
     {
         match self {
-            Refusal::TooShort {
-                needed,
-                available: _,
-            } => needed,
+            Refusal::TooShort { needed, .. } => needed,
             Refusal::WrongFormat { good } => good,
-            Refusal::UnknownMode(b) => b as usize,
-            Refusal::UnknownSubFunction(b) => b as usize,
+            Refusal::UnknownMode(b) => usize::from(b),
+            Refusal::UnknownSubFunction(b) => usize::from(b),
             Refusal::NoTroubleCode(n) => n as usize,
             Refusal::BadWidth(w) => w,
-            Refusal::NoRoom { needed, room: _ } => needed,
-            Refusal::UnequalSizes => 0,
+            Refusal::NoRoom { needed, .. } => needed,
             Refusal::LeftOver(n) => n,
-            Refusal::Cut => 0,
             Refusal::OutOfRange { place } => place,
-            Refusal::TooMany => 0,
             Refusal::NotAllowed { place } => place,
             Refusal::WrongCounter { place } => place,
             Refusal::UnknownService { place } => place,
-            Refusal::NoSuchCode => 0,
             Refusal::Repeated { place } => place,
             Refusal::BadCharacter { place } => place,
+            Refusal::UnequalSizes | Refusal::Cut | Refusal::TooMany | Refusal::NoSuchCode => 0,
         }
     }
 
@@ -107,27 +98,9 @@ impl Refusal {
         ensures { result ≡ (row self).second }
     {
         match self {
-            Refusal::TooShort {
-                needed: _,
-                available,
-            } => available,
-            Refusal::NoRoom { needed: _, room } => room,
-            Refusal::WrongFormat { good: _ } => 0,
-            Refusal::UnknownMode(_) => 0,
-            Refusal::UnknownSubFunction(_) => 0,
-            Refusal::NoTroubleCode(_) => 0,
-            Refusal::BadWidth(_) => 0,
-            Refusal::UnequalSizes => 0,
-            Refusal::LeftOver(_) => 0,
-            Refusal::Cut => 0,
-            Refusal::OutOfRange { place: _ } => 0,
-            Refusal::TooMany => 0,
-            Refusal::NotAllowed { place: _ } => 0,
-            Refusal::WrongCounter { place: _ } => 0,
-            Refusal::UnknownService { place: _ } => 0,
-            Refusal::NoSuchCode => 0,
-            Refusal::Repeated { place: _ } => 0,
-            Refusal::BadCharacter { place: _ } => 0,
+            Refusal::TooShort { available, .. } => available,
+            Refusal::NoRoom { room, .. } => room,
+            _ => 0,
         }
     }
 }

@@ -1,48 +1,22 @@
 // Sizes: the numbers from 0 to 2^128 - 1, held as two halves. They are compared, and measured in bytes.
-ghost use Rattle.std.specs.Prelude.{◌≡◌, [], ◌∷◌, max};
+ghost use Rattle.std.specs.Prelude.{◌≡◌, [], ◌∷◌};
 ghost use Rattle.paper.specs.Sizes.{Smallest, compare};
 ghost use Rattle.wire.specs.Size.{value, order_of};
 
-#[derive(Clone, Copy)]
+use std::cmp::Ordering;
+
+// The high half comes first, so the derived order is that of the numbers.
+#[derive(Clone, Copy, Debug, PartialEq, Eq, PartialOrd, Ord)]
 pub struct Size {
     pub high: u64,
     pub low: u64,
 }
 
-#[derive(Clone, Copy)]
-pub enum Order {
-    Less,
-    Equal,
-    Greater,
-}
-
 // The order of two sizes by their exact values.
-pub fn compare(a: Size, b: Size) -> Order
+pub fn compare(a: Size, b: Size) -> Ordering
     ensures { order_of result ≡ compare (value a) (value b) }
 {
-    if a.high < b.high {
-        return Order::Less;
-    }
-    if b.high < a.high {
-        return Order::Greater;
-    }
-    if a.low < b.low {
-        return Order::Less;
-    }
-    if b.low < a.low {
-        return Order::Greater;
-    }
-    Order::Equal
-}
-
-fn larger(a: Size, b: Size) -> Size
-    ensures { value result ≡ max (value a) (value b) }
-{
-    match compare(a, b) {
-        Order::Less => b,
-        Order::Equal => a,
-        Order::Greater => a,
-    }
+    a.cmp(&b)
 }
 
 // The smallest width from 1 to 16 that holds a size: a byte for every 8 bits, less one for every 8 zero bits that lead.
@@ -64,5 +38,5 @@ pub fn width_of(x: Size) -> usize
 pub fn width_of_both(a: Size, b: Size) -> usize
     ensures { Smallest (value a ∷ value b ∷ []) result }
 {
-    width_of(larger(a, b))
+    width_of(a.max(b))
 }
