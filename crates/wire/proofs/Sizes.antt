@@ -1,63 +1,63 @@
 -- Sizes in two halves: how their order comes about, and how the smallest width grows with a number.
 -- Assumes nothing.
-use mathlib.Core.Path.{◌≡◌, refl, sym, ap, ap₂, subst, ◌∙◌}
-use mathlib.Core.Bool.{Bool, true, false}
+use mathlib.Core.Path.{◌≡◌, refl, subst}
 use mathlib.Core.List.{[], ◌∷◌}
 use Prim.Native.Nat.{ℕ, max, ◌+◌, ◌*◌, ◌-◌, ◌^◌, ◌≤◌, ◌<◌}
-use native.Mathlib.Nat.{le_antisymm, mul_comm, mul-le-mul_right, lt_of_mul-lt-mul_right, lt_of_not-le, pow-le-pow_right}
+use native.Mathlib.Nat.{mul_comm, mul-le-mul_right, lt_of_mul-lt-mul_right, lt_of_not-le, pow-le-pow_right}
 use native.Mathlib.Omega.{arith}
-use borrow.Author.Tests.{lt-ltb, le-ltb, eq-eqb, ne_eqb, ltb-true, ltb-false, eqb-true, eqb-false}
+use borrow.Author.Tests.{lt-ltb, le-ltb, eq-eqb, ne_eqb}
 use lib.Arith.{digits_lt}
-use lib.Dec.{ltb, eqb, lit<}
+use lib.Dec.{lit<}
 use lib.Pow.{pow-add}
-use Rattle.paper.specs.Choice.{pick}
+use Rattle.std.specs.Ordering.{MatchOrdering, nat_cmp, ordering_then, is_lt}
+use Rattle.std.specs.Cmp.{ranked}
+use Rattle.std.specs.Prelude.{cond}
 use Rattle.paper.specs.Sizes as paper
 use Rattle.paper.specs.Sizes.{less, equal, greater, compare, Smallest}
-use Rattle.wire.specs.Size.{order_of}
-use Rattle.wire.specs.declared.size.Order.{Order}
-use Rattle.wire.specs.declared.size.Order.TheVariants.{Less, Equal, Greater}
+use Rattle.wire.specs.Size.{value, order_of}
+use Rattle.wire.specs.declared.size.Size.{Size}
+use Rattle.std.specs.declared.cmp.Ordering.{Ordering}
+use Rattle.std.specs.declared.cmp.Ordering.TheVariants.{Less, Equal, Greater}
 
 -- ---- order
 -- what each order says of two numbers
-abbrev pub Says : Order → ℕ → ℕ → Type 0
-Says Less a b = a < b
-Says Equal a b = a ≡ b
-Says Greater a b = b < a
+abbrev pub Says : Ordering → ℕ → ℕ → Type 0
+Says o a b = MatchOrdering o (a < b) (a ≡ b) (b < a)
 
 -- what an order says decides it
-pub ordered : (o : Order) (a b : ℕ) → Says o a b → order_of o ≡ compare a b
+pub ordered : (o : Ordering) (a b : ℕ) → Says o a b → order_of o ≡ compare a b
 unfolding compare
 ordered Less a b h = simp (lt-ltb a b h)
 ordered Equal a b h = simp (le-ltb a b (omega arith), eq-eqb a b h)
 ordered Greater a b h = simp (le-ltb a b (omega arith), ne_eqb a b (omega arith))
 
 -- two orders with the same name on paper are the same
-abbrev pub order_back : paper.Order → Order
+abbrev pub order_back : paper.Order → Ordering
 order_back less = Less
 order_back equal = Equal
 order_back greater = Greater
 
-pub order-back : (o : Order) → order_back (order_of o) ≡ o
+pub order-back : (o : Ordering) → order_back (order_of o) ≡ o
 order-back Less = refl
 order-back Equal = refl
 order-back Greater = refl
 
--- and the order of two numbers says it
-pub told : (o : Order) (a b : ℕ) → order_of o ≡ compare a b → Says o a b
-unfolding compare
-told o a b e = subst (λ (x : Order). Says x a b) (ap order_back (sym e) ∙ order-back o) (go (ltb a b) (eqb a b) refl refl)
+-- the order of the halves, the high ones first, is the order of the numbers
+pub by_halves : (ah al bh bl : ℕ) → al < 2 ^ 64 → bl < 2 ^ 64 → Says (ordering_then (nat_cmp ah bh) (nat_cmp al bl)) (ah * 2 ^ 64 + al) (bh * 2 ^ 64 + bl)
+by_halves ah al bh bl h k = go (nat_cmp ah bh) (nat_cmp al bl) (ranked ah bh (nat_cmp ah bh) refl) (ranked al bl (nat_cmp al bl) refl)
   where
-    go : (t u : Bool) → ltb a b ≡ t → eqb a b ≡ u → Says (order_back (pick t less (pick u equal greater))) a b
-    go true u p q = ltb-true a b p
-    go false true p q = eqb-true a b q
-    go false false p q = omega (arith, ltb-false a b p, eqb-false a b q)
+    go : (o p : Ordering) → Says o ah bh → Says p al bl → Says (ordering_then o p) (ah * 2 ^ 64 + al) (bh * 2 ^ 64 + bl)
+    go Less p d e = omega arith
+    go Equal Less d e = omega arith
+    go Equal Equal d e = omega arith
+    go Equal Greater d e = omega arith
+    go Greater p d e = omega arith
 
--- the high halves decide, and where they agree the low ones
-pub high-less : (ah al bh bl : ℕ) → ah < bh → al < 2 ^ 64 → ah * 2 ^ 64 + al < bh * 2 ^ 64 + bl
-high-less ah al bh bl h k = omega arith
-
-pub halves-same : (ah al bh bl : ℕ) → ah ≤ bh → bh ≤ ah → al ≤ bl → bl ≤ al → ah * 2 ^ 64 + al ≡ bh * 2 ^ 64 + bl
-halves-same ah al bh bl h i k l = ap₂ (λ (x y : ℕ). x * 2 ^ 64 + y) (le_antisymm h i) (le_antisymm k l)
+-- of two sizes, the one that their order picks has the larger number
+pub larger : (o : Ordering) (a b : Size) → Says o (value b) (value a) → value (cond (is_lt o) a b) ≡ max (value a) (value b)
+larger Less a b h = omega arith
+larger Equal a b h = omega arith
+larger Greater a b h = omega arith
 
 -- two halves hold a number of sixteen bytes
 pub in_sixteen : (h l : ℕ) → h < 2 ^ 64 → l < 2 ^ 64 → h * 2 ^ 64 + l < 256 ^ 16

@@ -5,11 +5,12 @@ use mathlib.Core.Path.{◌≡◌, refl, sym, ap, ◌∙◌}
 use mathlib.Core.List.{List}
 use contract.Lifetimes.{Lfts}
 use denote.MutBor.{MutBor}
+use Rattle.std.specs.Prelude.{Result, Ok, Err}
 use denote.Triple.Clauses.{AtExit}
 use borrow.Fn.Kinds.{ParamKind, ResultKind, Dens, res_t, Out, ended_of}
 use Rattle.paper.specs.Answer.{Answer, accepted, refused}
 use Rattle.wire.specs.Writing.{told, Wrote}
-use Rattle.wire.specs.declared.write.WriteAnswer.{WriteAnswer}
+use Rattle.wire.specs.declared.refusal.Refusal.{Refusal}
 use Rattle.wire.proofs.Refusals.{refusal_back, refusal-back}
 use Rattle.wire.proofs.write.put_byte.Kinds as put-byte-kinds
 use Rattle.wire.proofs.write.put_byte.Reads as put_byte
@@ -27,16 +28,16 @@ use Rattle.wire.proofs.write.put_two_sizes.Kinds as put-two-sizes-kinds
 use Rattle.wire.proofs.write.put_two_sizes.Reads as put-two-sizes
 
 -- the answer that the paper's stands for
-abbrev pub answer_back : Answer ℕ → WriteAnswer
-answer_back (accepted n) = WriteAnswer.Accepted n
-answer_back (refused e) = WriteAnswer.Refused (refusal_back e)
+abbrev pub answer_back : Answer ℕ → Result ℕ Refusal
+answer_back (accepted n) = Ok n
+answer_back (refused e) = Err (refusal_back e)
 
-pub answer_back_lem : (r : WriteAnswer) → answer_back (told r) ≡ r
-answer_back_lem (WriteAnswer.Accepted n) = refl
-answer_back_lem (WriteAnswer.Refused e) = ap WriteAnswer.Refused (refusal-back e)
+pub answer_back_lem : (r : Result ℕ Refusal) → answer_back (told r) ≡ r
+answer_back_lem (Ok n) = refl
+answer_back_lem (Err e) = ap Err (refusal-back e)
 
 -- one law for every writer
-pub wrote_once : {message : Answer (List ℕ)} {old : List ℕ} {r s : WriteAnswer} {x y : List ℕ} → Wrote message old r x → Wrote message old s y → (r ≡ s) × (x ≡ y)
+pub wrote_once : {message : Answer (List ℕ)} {old : List ℕ} {r s : Result ℕ Refusal} {x y : List ℕ} → Wrote message old r x → Wrote message old s y → (r ≡ s) × (x ≡ y)
 wrote_once {r = r} {s} p q = (sym (answer_back_lem r) ∙ ap answer_back (p.answer ∙ sym q.answer) ∙ answer_back_lem s, p.contents ∙ sym q.contents)
 
 -- what is shown of a writer's contract, as the check reads it: of two results that meet it at the same arguments, and their two exits,

@@ -1,5 +1,7 @@
 -- The number that two halves hold, and what an order says.
-use Rattle.std.specs.Prelude.{ℕ, ◌+◌, ◌*◌, ◌^◌, Ordering, Less, Equal, Greater}
+use Rattle.std.specs.Prelude.{ℕ, ◌+◌, ◌*◌, ◌^◌}
+use Rattle.std.specs.declared.cmp.Ordering.{Ordering}
+use Rattle.std.specs.declared.cmp.Ordering.TheVariants.{Less, Equal, Greater}
 use Rattle.paper.specs.Sizes as paper
 use Rattle.paper.specs.Sizes.{less, equal, greater}
 use Rattle.wire.specs.declared.size.Size.{Size}

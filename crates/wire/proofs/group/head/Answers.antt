@@ -14,7 +14,7 @@ pair-requires c = omega (arith, ap prefix_len c.in-Two.is)
 pub returns-in-One : goal.returns-in-One
 returns-in-One c =
     let a = c.args in
-    (rw c.in-One.is (c.wide.ensures.0 ∙ of_one a.s.now a.at (omega (arith, ap prefix_len c.in-One.is))), omega arith)
+    (rw c.in-One.is (c.from.ensures ∙ of_one a.s.now a.at (omega (arith, ap prefix_len c.in-One.is))), omega arith)
 
 pub returns-in-Two : goal.returns-in-Two
-returns-in-Two c = rw c.in-Two.is c.pair.ensures
+returns-in-Two c = rw c.in-Two.is (c.from-in-Two.ensures ∙ c.pair.ensures, omega arith)

@@ -1,40 +1,14 @@
--- `wire::group::one_size_at` meets its contract: the width's refusal is the group's, and the size stands right after a good width.
-use mathlib.Core.Path.{subst}
+-- `wire::group::one_size_at` meets its contract: the size stands right after a good width.
 use Prim.Native.Nat.{◌+◌}
-use native.Mathlib.Omega.{arith}
 use borrow.Author.Rules.{rules}
-use Rattle.wire.specs.Prefix.{prefix_len}
-use Rattle.wire.specs.Group.{WidthRight}
-use Rattle.wire.specs.declared.group.WidthAnswer.{WidthAnswer}
 use Rattle.wire.proofs.Halves.{size_low}
-use Rattle.wire.proofs.Groups.{width-left, one-good}
+use Rattle.wire.proofs.Groups.{one-good}
 use Rattle.wire.proofs.group.one_size_at.Goals as goal
-
-pub returns-in_default : goal.returns-in_default
-returns-in_default c =
-    let a = c.args in
-    record { paper = width-left _ 1 a.s.now a.at c.width_at-w.ensures c.in_default.is c.refusal.ensures; place = tt }
-
-pub overflow_add-first : goal.overflow_add-first
-overflow_add-first c =
-    let g : let a = c.args in WidthRight (prefix_len a.prefix) 1 a.s.now a.at (WidthAnswer.Good c.in-Good.width) = subst (WidthRight _ 1 _ _) c.in-Good.is c.width_at-w.ensures in
-    omega arith
-
-pub gather-requires : goal.gather-requires
-gather-requires c =
-    let g : let a = c.args in WidthRight (prefix_len a.prefix) 1 a.s.now a.at (WidthAnswer.Good c.in-Good.width) = subst (WidthRight _ 1 _ _) c.in-Good.is c.width_at-w.ensures in
-    search rules
-
-pub overflow_add-result : goal.overflow_add-result
-overflow_add-result c =
-    let g : let a = c.args in WidthRight (prefix_len a.prefix) 1 a.s.now a.at (WidthAnswer.Good c.in-Good.width) = subst (WidthRight _ 1 _ _) c.in-Good.is c.width_at-w.ensures in
-    omega arith
 
 pub returns : goal.returns
 returns c =
     let a = c.args in
-    let g : let a = c.args in WidthRight (prefix_len a.prefix) 1 a.s.now a.at (WidthAnswer.Good c.in-Good.width) = subst (WidthRight _ 1 _ _) c.in-Good.is c.width_at-w.ensures in
     record {
-      paper = one-good _ a.s.now a.at _ (a.at + c.len.result) (search rules) g c.gather.ensures;
-      place = (size_low _ _ c.gather.type_inv, omega arith);
+      paper = one-good _ a.s.now a.at _ (a.at + c.len.result) (search rules) c.in_ok-width.ensures c.gather.ensures;
+      place = (size_low _ _ c.gather.type_inv, search rules);
     }

@@ -16,7 +16,7 @@ pub put_head-requires : goal.put_head-requires
 put_head-requires c = prefix_width c.args.prefix c.width_of-width.ensures
 
 pub write_be_uint-requires : goal.write_be_uint-requires
-write_be_uint-requires c = c.width_of-width.ensures.holds.fit.0
+write_be_uint-requires c = let s = c.width_of-width.ensures.holds in (s.fit.0, s.within)
 
 pub returns : goal.returns
 returns c =

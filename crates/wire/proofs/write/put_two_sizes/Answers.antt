@@ -17,10 +17,10 @@ pub put_head-requires : goal.put_head-requires
 put_head-requires c = prefix_width c.args.prefix c.width_of_both-width.ensures
 
 pub write_be_uint-requires : goal.write_be_uint-requires
-write_be_uint-requires c = c.width_of_both-width.ensures.holds.fit.0
+write_be_uint-requires c = let s = c.width_of_both-width.ensures.holds in (s.fit.0, s.within)
 
 pub write_be_uint-requires-2 : goal.write_be_uint-requires-2
-write_be_uint-requires-2 c = c.width_of_both-width.ensures.holds.fit.1.0
+write_be_uint-requires-2 c = let s = c.width_of_both-width.ensures.holds in (s.fit.1.0, s.within)
 
 pub returns : goal.returns
 returns c =
