@@ -1,14 +1,15 @@
 // What the programs share of reading and of their arguments, over std alone: a buffer that is filled from a reader, the arguments' bytes,
-// and the file that a path of bytes names.
+// the file that a path of bytes names, and each file that the arguments name.
 #![tactic(auto)]
 
-ghost use Rattle.std.specs.Prelude.{◌≡◌, ℕ, List, ◌<◌, ◌≤◌, take, length, IfOk, IfSome, IsErr, OnOk, IsUtf8, codes, [], ◌∷◌, ◌++◌};
+ghost use Rattle.std.specs.Prelude.{◌≡◌, ◌<◌, ◌≤◌, take, length, IfOk, IsErr, IsNone, MatchOption, OnOk, IsUtf8};
 ghost use Rattle.std.specs.Io.{ReadsAtMost};
-ghost use Rattle.std.specs.Io.KnownBytes.{Appends, Consumes, IsAtEnd};
+ghost use Rattle.std.specs.Io.KnownBytes.{Consumes, IsAtEnd};
+ghost use Rattle.streams.specs.Told.{Tells};
 
 use std::alloc::Global;
 use std::env::FillError;
-use std::fs;
+use std::fs::{self, File};
 use std::io::{self, Read, Write};
 use std::rt::{Env, Files};
 use std::str::from_utf8;
@@ -19,11 +20,12 @@ pub fn read_full<R: Read>(reader: &mut R, buf: &mut [u8]) -> io::Result<usize>
     ensures bytes { IfOk result (λ n. Consumes (R.remaining reader.old) (R.remaining reader.new) (take n buf.new)) }
     ensures end { IfOk result (λ n. n < length buf.new → IsAtEnd (R.remaining reader.new)) }
 {
+    // No `for`: each read gives as many bytes as it likes.
     let mut done = 0;
     while done < buf.len() {
         let n = reader.read(&mut buf[done..])?;
         if n == 0 {
-            return Ok(done);
+            break;
         }
         done += n;
     }
@@ -34,46 +36,35 @@ pub fn read_full<R: Read>(reader: &mut R, buf: &mut [u8]) -> io::Result<usize>
 pub fn argument_count(rt: &impl Env, most: usize) -> usize
     ensures { result ≤ most }
 {
-    let mut byte = [0u8; 1];
-    for i in 0..most {
-        if let Err(FillError::NotPresent) = rt.arg(i, &mut byte) {
-            return i;
-        }
-    }
-    most
+    (0..most)
+        .find(|i| matches!(rt.arg(*i, &mut [0]), Err(FillError::NotPresent)))
+        .unwrap_or(most)
 }
 
 // Puts argument `i` at the start of `buf` and answers its length, or 0 where it is missing or longer than `buf`.
 pub fn argument(rt: &impl Env, i: usize, buf: &mut [u8]) -> usize
     ensures { result ≤ length buf.new }
 {
-    match rt.arg(i, buf) {
-        Ok(n) => n,
-        Err(_) => 0,
-    }
+    rt.arg(i, buf).unwrap_or(0)
 }
 
 // Opens the file that a path of bytes names, for reading. A path that is no UTF-8 counts as one that can't be opened.
 pub fn open_read<R: Files>(rt: &R, path: &[u8]) -> io::Result<R::File>
     ensures { (IsUtf8 path.now → ⊥) → IsErr result }
 {
-    match from_utf8(path) {
-        Ok(text) => fs::open(rt, text),
-        Err(_) => Err(io::Error::from(io::ErrorKind::InvalidFilename)),
-    }
+    let text = from_utf8(path).map_err(|_| io::Error::from(io::ErrorKind::InvalidFilename))?;
+    fs::open(rt, text)
 }
 
 // The words for an error, without its number, which std writes behind them.
 fn words(said: &str) -> &str {
-    match said.split_once(" (os error ") {
-        Some((front, _)) => front,
-        None => said,
-    }
+    said.split_once(" (os error ")
+        .map_or(said, |(front, _)| front)
 }
 
 // Writes a line: what could not be opened, a colon and the words for the error.
 pub fn fail<W: Write>(out: &mut W, alloc: Global, path: &[u8], error: &io::Error) -> io::Result<()>
-    ensures { OnOk result ((said : List ℕ) × Appends (W.contents out.old) (W.contents out.new) (path.now ++ (codes ": " ++ (said ++ 10 ∷ [])))) }
+    ensures { OnOk result (Tells (W.contents out.old) (W.contents out.new) path.now) }
 {
     let said = format!(in alloc; "{error}")?;
     out.write_all(path)?;
@@ -81,4 +72,45 @@ pub fn fail<W: Write>(out: &mut W, alloc: Global, path: &[u8], error: &io::Error
     out.write_all(words(&said).as_bytes())?;
     out.write_all(b"\n")?;
     Ok(())
+}
+
+// The same file; where it can't be opened there is none, and `out` is told why.
+pub fn open_or_fail<R: Files + AllocGlobal, W: Write>(
+    rt: &R,
+    out: &mut W,
+    path: &[u8],
+) -> io::Result<Option<R::File>>
+    ensures none { (IsUtf8 path.now → ⊥) → IfOk result IsNone }
+    ensures told { IfOk result (λ file. MatchOption file (Tells (W.contents out.old) (W.contents out.new) path.now) (λ _. out.new ≡ out.old)) }
+{
+    match open_read(rt, path) {
+        Ok(file) => Ok(Some(file)),
+        Err(error) => {
+            fail(out, rt.alloc(), path, &error)?;
+            Ok(None)
+        }
+    }
+}
+
+// What a program prints of a file that its arguments name.
+pub trait Case {
+    fn print(&self, rt: &HostRuntime, path: &[u8], file: &mut File) -> io::Result<()>;
+
+    // Opens the file that argument `i` names and prints it; where it can't be opened, standard error is told why.
+    final fn print_argument(&self, rt: &HostRuntime, i: usize) -> io::Result<()> {
+        let mut path = [0u8; 4096];
+        let n = argument(rt, i, &mut path);
+        match open_or_fail(rt, &mut rt.stderr(), &path[..n])? {
+            Some(mut file) => self.print(rt, &path[..n], &mut file),
+            None => Ok(()),
+        }
+    }
+
+    // Each file that the arguments name, one after the other.
+    final fn print_each(&self, rt: &HostRuntime) -> io::Result<()> {
+        for i in 1..argument_count(rt, usize::MAX) {
+            self.print_argument(rt, i)?;
+        }
+        Ok(())
+    }
 }
