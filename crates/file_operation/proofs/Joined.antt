@@ -7,7 +7,6 @@ use Rattle.paper.specs.Joined as on-paper
 use Rattle.paper.specs.Joined.{Each, FromRewriting, Joinable}
 use Rattle.wire.specs.Reading.{Seen}
 use Rattle.file_operation.specs.Joined.{WasWhole, WasRewritten, JoinedCalls}
-use Rattle.file_operation.specs.declared.rewrite.RewriteAnswer.{RewriteAnswer}
 use Rattle.file_operation.proofs.Demand.{Keeps, message, rewritten}
 
 -- each element is so, where each is something that makes it so
@@ -16,7 +15,7 @@ each f [] w = tt
 each f (x ∷ xs) w = (f x w.0, each f xs w.1)
 
 module _ {A Q : Type 0} {read : Reader A} {rewrite : Reader (List ℕ)} {meant : List ℕ → Q → A} {Place : List ℕ → Q → ℕ → Type 0}
-    {Reads : List ℕ → Seen Q → Type 0} {Rewrites : List ℕ → List ℕ → RewriteAnswer → List ℕ → Type 0} {Same : List ℕ → Q → List ℕ → Q → Type 0}
+    {Reads : List ℕ → Seen Q → Type 0} {Rewrites : List ℕ → List ℕ → Seen ℕ → List ℕ → Type 0} {Same : List ℕ → Q → List ℕ → Q → Type 0}
     (keeps : Keeps read rewrite meant Place Reads Rewrites Same) where
   -- what was read whole is a whole message, and what was written of it is the paper's rewriting
   pub on_paper_whole : (s : List ℕ) → WasWhole Q Reads s → on-paper.Whole A read s

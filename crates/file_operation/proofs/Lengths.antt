@@ -1,28 +1,28 @@
 -- What the answer about a message's length says of the message.
 -- Assumes nothing.
-use mathlib.Core.Path.{◌≡◌, refl, sym, ap}
+use mathlib.Core.Path.{◌≡◌, refl, sym, ap, ◌∙◌}
 use Prim.Native.Nat.{ℕ, ◌<◌}
 use mathlib.Core.List.{List, []}
 use lib.ListN.{length}
+use Rattle.std.specs.Prelude.{Result, Ok, Err}
 use Rattle.paper.specs.Answer as paper
 use Rattle.paper.specs.Answer.{Answer, accepted, refused, ◌then◌}
 use Rattle.paper.proofs.Choice.{never}
 use Rattle.wire.specs.Refusals.{row}
-use Rattle.wire.specs.Writing.{Wrote}
+use Rattle.wire.specs.Writing.{told, Wrote}
 use Rattle.wire.specs.declared.refusal.Refusal.{Refusal}
-use Rattle.wire.specs.declared.write.WriteAnswer.{WriteAnswer}
 use Rattle.wire.proofs.Writes.{refuses, malformed}
-use Rattle.file_operation.specs.Part.{or_none}
+use Rattle.file_operation.specs.Part.{or_none, kept_after}
 use Rattle.file_operation.specs.Writing.{length_in}
 
 -- a refusal is the message's own
-pub same-refusal : (message : Answer (List ℕ)) {e : Refusal} {old : List ℕ} → refused (row e) ≡ length_in message → Wrote message old (WriteAnswer.Refused e) old
+pub same-refusal : (message : Answer (List ℕ)) {e : Refusal} {old : List ℕ} → refused (row e) ≡ length_in message → Wrote message old (Err e) old
 same-refusal (accepted bytes) said = absurd (never said)
 same-refusal (refused r) said = malformed (cc)
 
 -- a number is that of the message's bytes, and in less room they are refused
 pub same_number : (message : Answer (List ℕ)) {n : ℕ} {old : List ℕ} → accepted n ≡ length_in message → length old < n
-    → Wrote message old (WriteAnswer.Refused (Refusal.NoRoom n (length old))) old
+    → Wrote message old (Err (Refusal.NoRoom n (length old))) old
 same_number (accepted bytes) said h = refuses _ (cc) h
 same_number (refused r) said h = absurd (never (sym said))
 
@@ -36,6 +36,11 @@ accepted_length (refused r) said = absurd (never (sym said))
 pub refused_none : (a : Answer (List ℕ)) {r : paper.Refusal} → refused r ≡ length_in a → [] ≡ or_none a
 refused_none (accepted x) said = absurd (never said)
 refused_none (refused r) said = refl
+
+-- what a check hands on is what stays after its answer, where it hands on the whole or nothing
+pub kept-after : (a : Answer (List ℕ)) (x : List ℕ) (r : Result ℕ Refusal) → ((y : List ℕ) → a ≡ accepted y → y ≡ x) → told r ≡ length_in a → kept_after r x ≡ or_none a
+kept-after a x (Ok n) whole said = let (y, is, l) = accepted_length a said in sym (ap or_none is ∙ whole y is)
+kept-after a x (Err e) whole said = refused_none a said
 
 pub refused_then : {B : Type 0} (a : Answer (List ℕ)) (next : Answer B) {r : paper.Refusal} → refused r ≡ length_in a → refused r ≡ (a then next)
 refused_then (accepted x) next said = absurd (never said)

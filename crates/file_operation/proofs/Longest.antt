@@ -7,14 +7,13 @@ use mathlib.Core.Bool.{Bool, true, false}
 use native.Mathlib.Omega.{arith}
 use lib.Dec.{leb}
 use lib.ListN.{length}
+use Rattle.std.specs.Prelude.{Ok}
 use Rattle.paper.specs.Answer.{Answer, accepted, refused, Read, ◌leaving◌, Reader, ◌>>=◌, over, written}
 use Rattle.paper.specs.Rewriting.{rewriting, RewrittenInto, tail_beside}
 use Rattle.paper.proofs.Choice.{never}
 use Rattle.wire.specs.Writing.{Wrote}
-use Rattle.wire.specs.declared.write.WriteAnswer.{WriteAnswer}
 use Rattle.wire.proofs.Writes.{writes, passed}
 use Rattle.file_operation.specs.Rewriting.{Rewrote}
-use Rattle.file_operation.specs.declared.rewrite.RewriteAnswer.{RewriteAnswer}
 use Rattle.file_operation.proofs.Rewrites.{handed_out}
 
 -- where a number is answered, the message is as long
@@ -41,11 +40,11 @@ module _ {A : Type 0} {write : A → Answer (List ℕ)} {most : ℕ} (longest : 
   at_most m (refused r) e old h = absurd (never h)
 
   -- by a call of the writer
-  pub wrote_at_most : {m : A} {old new : List ℕ} {n : ℕ} → Wrote (write m) old (WriteAnswer.Accepted n) new → n ≤ most
+  pub wrote_at_most : {m : A} {old new : List ℕ} {n : ℕ} → Wrote (write m) old (Ok n) new → n ≤ most
   wrote_at_most {m} {old} h = at_most m (write m) refl old (sym h.answer)
 
   -- or of the rewriter
-  pub rewrote_at_most : (read : Reader A) {s old new : List ℕ} {n tail : ℕ} → Rewrote (rewriting read write) s old (RewriteAnswer.Accepted n tail) new → n ≤ most
+  pub rewrote_at_most : (read : Reader A) {s old new : List ℕ} {n tail : ℕ} → Rewrote (rewriting read write) s old (Ok (n, tail)) new → n ≤ most
   unfolding rewriting ◌>>=◌
   rewrote_at_most read {s} {old} {n = n} {tail} h = by (read s) refl
     where
@@ -55,5 +54,5 @@ module _ {A : Type 0} {write : A → Answer (List ℕ)} {most : ℕ} (longest : 
           at_most m (write m) refl old (without_tail t (written (write m) old).answer (rw e at h.answer ∙ ap RewrittenInto.answer (handed_out (write m) t old)))
 
 -- what is accepted is written into a buffer that is just as long
-pub wrote_all : {message : Answer (List ℕ)} {u : List ℕ} {n : ℕ} → message ≡ accepted u → length u ≡ n → Wrote message u (WriteAnswer.Accepted n) (over u u)
+pub wrote_all : {message : Answer (List ℕ)} {u : List ℕ} {n : ℕ} → message ≡ accepted u → length u ≡ n → Wrote message u (Ok n) (over u u)
 wrote_all {n = n} e l = passed e (writes n l (omega arith) (record { given_room = λ _. refl }))

@@ -2,36 +2,50 @@
 -- Assumes nothing.
 use Prim.Native.Nat.{ℕ, ◌^◌, ◌<◌}
 use mathlib.Core.Path.{◌≡◌, refl, sym, ap, ap₂, ◌∙◌}
+use mathlib.Core.List.{List}
 use native.Mathlib.Nat.{div-add-mod'}
+use contract.Lifetimes.{Lfts}
+use denote.Ref.{Bor}
+use denote.Triple.Clauses.{AtExit}
+use borrow.Fn.Kinds.{Dens, ended_of}
+use Rattle.std.specs.Prelude.{Result, Ok, Err}
 use Rattle.paper.specs.Answer.{Answer, accepted, refused}
 use Rattle.paper.specs.Kind.{Kind, add_file, delete_file, replace_file, read_file, read_dir, resume_file}
 use Rattle.wire.specs.Size.{value}
 use Rattle.wire.specs.declared.place.Place.{Place}
+use Rattle.wire.specs.declared.refusal.Refusal.{Refusal}
 use Rattle.wire.specs.declared.size.Size.{Size}
 use Rattle.wire.proofs.Halves.{size_of, size_back}
 use Rattle.wire.proofs.Refusals.{refusal_back, refusal-back}
 use Rattle.wire.proofs.Unique.{Determined}
+use Rattle.wire.proofs.UniqueHeld.{Alike, alike}
 use Rattle.file_operation.specs.Mode.{kind_of, mode_said}
 use Rattle.file_operation.specs.Part.{part_said}
 use Rattle.file_operation.specs.declared.mode.FileOperationMode.{FileOperationMode}
 use Rattle.file_operation.specs.declared.mode.FileOperationMode.TheVariants.{AddFile, DeleteFile, ReplaceFile, ReadFile, ReadDir, ResumeFile}
-use Rattle.file_operation.specs.declared.mode.ModeAnswer.{ModeAnswer}
-use Rattle.file_operation.specs.declared.part.PartAnswer.{PartAnswer}
 use Rattle.file_operation.specs.declared.payload.DataFormatIdentifier.{DataFormatIdentifier}
 use Rattle.file_operation.specs.declared.payload.SizePayload.{SizePayload}
 use Rattle.file_operation.specs.declared.payload.FileSizePayload.{FileSizePayload}
-use Rattle.file_operation.proofs.mode.ModeAnswer.refusal.Kinds as mode-refusal-kinds
-use Rattle.file_operation.proofs.mode.ModeAnswer.refusal.Reads as mode-refusal
+use Rattle.file_operation.proofs.mode.FileOperationModeTryFromU8.try_from.Kinds as mode-try-from-kinds
+use Rattle.file_operation.proofs.mode.FileOperationModeTryFromU8.try_from.Reads as mode-try-from
+use Rattle.file_operation.proofs.mode.U8FromFileOperationMode.from.Kinds as byte-of-mode-kinds
+use Rattle.file_operation.proofs.mode.U8FromFileOperationMode.from.Reads as byte-of-mode
 use Rattle.file_operation.proofs.mode.FileOperationMode.from_byte.Kinds as mode-from-byte-kinds
 use Rattle.file_operation.proofs.mode.FileOperationMode.from_byte.Reads as mode-from-byte
 use Rattle.file_operation.proofs.mode.FileOperationMode.value.Kinds as mode-value-kinds
 use Rattle.file_operation.proofs.mode.FileOperationMode.value.Reads as mode-value
+use Rattle.file_operation.proofs.payload.DataFormatIdentifierFromU8.from.Kinds as format-from-kinds
+use Rattle.file_operation.proofs.payload.DataFormatIdentifierFromU8.from.Reads as format-from
+use Rattle.file_operation.proofs.payload.U8FromDataFormatIdentifier.from.Kinds as byte-of-format-kinds
+use Rattle.file_operation.proofs.payload.U8FromDataFormatIdentifier.from.Reads as byte-of-format
 use Rattle.file_operation.proofs.payload.DataFormatIdentifier.from_byte.Kinds as format-from-byte-kinds
 use Rattle.file_operation.proofs.payload.DataFormatIdentifier.from_byte.Reads as format-from-byte
 use Rattle.file_operation.proofs.payload.DataFormatIdentifier.value.Kinds as format-value-kinds
 use Rattle.file_operation.proofs.payload.DataFormatIdentifier.value.Reads as format-value
-use Rattle.file_operation.proofs.part.PartAnswer.or_empty.Kinds as or-empty-kinds
-use Rattle.file_operation.proofs.part.PartAnswer.or_empty.Reads as or-empty
+use Rattle.file_operation.proofs.part.or_empty.Kinds as or-empty-kinds
+use Rattle.file_operation.proofs.part.or_empty.Reads as or-empty
+use Rattle.file_operation.proofs.part.kept_after.Kinds as kept-after-kinds
+use Rattle.file_operation.proofs.part.kept_after.Reads as kept-after
 use Rattle.file_operation.proofs.rewrite.beside_tail.Kinds as beside-tail-kinds
 use Rattle.file_operation.proofs.rewrite.beside_tail.Reads as beside-tail
 
@@ -64,26 +78,28 @@ kind-again read_dir = refl
 kind-again resume_file = refl
 
 -- the answer that the paper's stands for
-abbrev mode_back : Answer Kind → ModeAnswer
-mode_back (accepted k) = ModeAnswer.Accepted (kind_back k)
-mode_back (refused e) = ModeAnswer.Refused (refusal_back e)
+abbrev mode_back : Answer Kind → Result FileOperationMode Refusal
+mode_back (accepted k) = Ok (kind_back k)
+mode_back (refused e) = Err (refusal_back e)
 
 -- an answer comes back from what it says
-mode-back : (r : ModeAnswer) → mode_back (mode_said r) ≡ r
-mode-back (ModeAnswer.Accepted k) = ap ModeAnswer.Accepted (kind-back k)
-mode-back (ModeAnswer.Refused e) = ap ModeAnswer.Refused (refusal-back e)
+mode-back : (r : Result FileOperationMode Refusal) → mode_back (mode_said r) ≡ r
+mode-back (Ok k) = ap Ok (kind-back k)
+mode-back (Err e) = ap Err (refusal-back e)
 
 -- the kind of a mode byte, or the refusal
+pub mode_try_from_determined : Determined 0 mode-try-from-kinds.ps mode-try-from-kinds.r mode-try-from.Post
+mode_try_from_determined κs a x y r₁ r₂ p q = sym (mode-back r₁) ∙ ap mode_back (p ∙ sym q) ∙ mode-back r₂
+
 pub mode_from_byte_determined : Determined 0 mode-from-byte-kinds.ps mode-from-byte-kinds.r mode-from-byte.Post
-mode_from_byte_determined κs a x y r₁ r₂ p q = sym (mode-back r₁) ∙ ap mode_back (p ∙ sym q) ∙ mode-back r₂
+mode_from_byte_determined = mode_try_from_determined
 
 -- the mode byte of a kind
-pub mode_value_determined : Determined 0 mode-value-kinds.ps mode-value-kinds.r mode-value.Post
-mode_value_determined κs a x y r₁ r₂ p q = p ∙ sym q
+pub byte_of_mode_determined : Determined 0 byte-of-mode-kinds.ps byte-of-mode-kinds.r byte-of-mode.Post
+byte_of_mode_determined κs a x y r₁ r₂ p q = p ∙ sym q
 
--- the refusal in an answer
-pub mode_refusal_determined : Determined 0 mode-refusal-kinds.ps mode-refusal-kinds.r mode-refusal.Post
-mode_refusal_determined κs a x y r₁ r₂ p q = p ∙ sym q
+pub mode_value_determined : Determined 0 mode-value-kinds.ps mode-value-kinds.r mode-value.Post
+mode_value_determined = byte_of_mode_determined
 
 -- ---- formats
 -- the format that a byte stands for
@@ -95,12 +111,18 @@ pub format_back : (x : DataFormatIdentifier) → format_of x.0 ≡ x
 format_back x = refl
 
 -- the format of a byte
+pub format_from_determined : Determined 0 format-from-kinds.ps format-from-kinds.r format-from.Post
+format_from_determined κs a x y r₁ r₂ p q = ap format_of (p ∙ sym q)
+
 pub format_from_byte_determined : Determined 0 format-from-byte-kinds.ps format-from-byte-kinds.r format-from-byte.Post
-format_from_byte_determined κs a x y r₁ r₂ p q = ap format_of (p ∙ sym q)
+format_from_byte_determined = format_from_determined
 
 -- the byte of a format
+pub byte_of_format_determined : Determined 0 byte-of-format-kinds.ps byte-of-format-kinds.r byte-of-format.Post
+byte_of_format_determined κs a x y r₁ r₂ p q = p ∙ sym q
+
 pub format_value_determined : Determined 0 format-value-kinds.ps format-value-kinds.r format-value.Post
-format_value_determined κs a x y r₁ r₂ p q = p ∙ sym q
+format_value_determined = byte_of_format_determined
 
 -- ---- payloads of two sizes
 -- a number comes back from its size
@@ -135,18 +157,23 @@ file-sizes-back x h k = ap₂ file_sizes_of (size_back x.file_size_uncompressed 
 
 -- ---- parts
 -- the answer that the paper's stands for
-abbrev pub part_back : Answer Place → PartAnswer
-part_back (accepted p) = PartAnswer.At p
-part_back (refused e) = PartAnswer.Refused (refusal_back e)
+abbrev pub part_back : Answer Place → Result Place Refusal
+part_back (accepted p) = Ok p
+part_back (refused e) = Err (refusal_back e)
 
 -- an answer comes back from what it says
-pub part-back : (r : PartAnswer) → part_back (part_said r) ≡ r
-part-back (PartAnswer.At p) = refl
-part-back (PartAnswer.Refused e) = ap PartAnswer.Refused (refusal-back e)
+pub part-back : (r : Result Place Refusal) → part_back (part_said r) ≡ r
+part-back (Ok p) = refl
+part-back (Err e) = ap Err (refusal-back e)
 
 -- the place in an answer
 pub or_empty_determined : Determined 0 or-empty-kinds.ps or-empty-kinds.r or-empty.Post
 or_empty_determined κs a x y r₁ r₂ p q = p ∙ sym q
+
+-- what stays of bytes after their check
+pub kept_after_determined : (κs : Lfts 1) (a : Dens κs kept-after-kinds.ps) (x y : AtExit (ended_of 1 kept-after-kinds.ps kept-after-kinds.r) κs) (r₁ r₂ : Bor (List ℕ))
+    → kept-after.Post κs a r₁ x → kept-after.Post κs a r₂ y → Alike r₁ r₂
+kept_after_determined κs a x y r₁ r₂ p q = alike r₁ r₂ p q
 
 -- ---- rewriting
 -- the writer's answer with the tail beside it

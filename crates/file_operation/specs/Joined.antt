@@ -4,7 +4,6 @@ use Rattle.paper.specs.Batch.{joined}
 use Rattle.paper.specs.Joined.{Each}
 use Rattle.wire.specs.Reading.{Seen}
 use Rattle.file_operation.specs.Calls.{Whole, Became}
-use Rattle.file_operation.specs.declared.rewrite.RewriteAnswer.{RewriteAnswer}
 
 -- u was accepted with nothing left over, whatever was read
 pub record WasWhole (Q : Type 0) (Reads : List ℕ → Seen Q → Type 0) (u : List ℕ) : Type 0 where
@@ -12,12 +11,12 @@ pub record WasWhole (Q : Type 0) (Reads : List ℕ → Seen Q → Type 0) (u : L
   pub read : Whole Q Reads u what
 
 -- u is what was written of some message that was accepted with nothing left over
-pub record WasRewritten (Q : Type 0) (Reads : List ℕ → Seen Q → Type 0) (Rewrites : List ℕ → List ℕ → RewriteAnswer → List ℕ → Type 0) (u : List ℕ) : Type 0 where
+pub record WasRewritten (Q : Type 0) (Reads : List ℕ → Seen Q → Type 0) (Rewrites : List ℕ → List ℕ → Seen ℕ → List ℕ → Type 0) (u : List ℕ) : Type 0 where
   pub before : List ℕ
   pub whole : WasWhole Q Reads before
   pub became : Became Rewrites before u
 
-pub record JoinedCalls (Q : Type 0) (Reads : List ℕ → Seen Q → Type 0) (Rewrites : List ℕ → List ℕ → RewriteAnswer → List ℕ → Type 0) : Type 0 where
+pub record JoinedCalls (Q : Type 0) (Reads : List ℕ → Seen Q → Type 0) (Rewrites : List ℕ → List ℕ → Seen ℕ → List ℕ → Type 0) : Type 0 where
   -- where s and s ++ t were both accepted with nothing left over, t is empty
   pub begins_none : {s t : List ℕ} → WasWhole Q Reads s → WasWhole Q Reads (s ++ t) → t ≡ []
   -- two lists of messages that were accepted with nothing left over are the same where their joined bytes are

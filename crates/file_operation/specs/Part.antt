@@ -1,17 +1,17 @@
 -- What an answer about a part of a message says, and what a part is that is handed out.
-use Rattle.std.specs.Prelude.{◌≡◌, ℕ, List, []}
+use Rattle.std.specs.Prelude.{◌≡◌, ℕ, List, [], Result, Ok, Err}
 use Rattle.std.specs.Borrow.{Bor}
 use Rattle.paper.specs.Answer.{Answer, accepted, refused}
 use Rattle.wire.specs.Refusals.{row}
 use Rattle.wire.specs.Place.{IsPart}
 use Rattle.wire.specs.declared.place.Place.{Place}
-use Rattle.file_operation.specs.declared.part.PartAnswer.{PartAnswer}
+use Rattle.wire.specs.declared.refusal.Refusal.{Refusal}
 
 -- ---- a part of a message that was read
 -- the place, or the refusal's number and values
-abbrev pub part_said : PartAnswer → Answer Place
-part_said (PartAnswer.At p) = accepted p
-part_said (PartAnswer.Refused e) = refused (row e)
+abbrev pub part_said : Result Place Refusal → Answer Place
+part_said (Ok p) = accepted p
+part_said (Err e) = refused (row e)
 
 -- the place; of a refusal the empty one at the start of the message
 abbrev pub or_empty : Answer Place → Place
@@ -27,6 +27,15 @@ IsPartIn s answer r = IsPart s (or_empty answer).start (or_empty answer).len r
 abbrev pub or_none : Answer (List ℕ) → List ℕ
 or_none (accepted x) = x
 or_none (refused e) = []
+
+-- what stays of bytes of which a check answered their number, or refused them
+abbrev pub kept_after : Result ℕ Refusal → List ℕ → List ℕ
+kept_after (Ok n) x = x
+kept_after (Err e) x = []
+
+-- r begins where s does, and its bytes are what stays of those of s
+abbrev pub KeptAfter : Result ℕ Refusal → Bor (List ℕ) → Bor (List ℕ) → Type 0
+KeptAfter checked s r = (r.ref_ptr ≡ s.ref_ptr) × (r.now ≡ kept_after checked s.now)
 
 -- r begins where s does, and its bytes are what the check hands on of those of s
 abbrev pub Kept : (List ℕ → Answer (List ℕ)) → Bor (List ℕ) → Bor (List ℕ) → Type 0

@@ -1,23 +1,14 @@
-// What a call answers that reads a message and writes it anew into another buffer.
+// What a call answers that reads a message and writes it anew into another buffer:
+// how many bytes were written and where in the message that was read its tail begins, or the refusal.
 ghost use Rattle.std.specs.Prelude.{◌≡◌};
 ghost use Rattle.file_operation.specs.Rewriting.{beside_tail};
 
 use wire::refusal::Refusal;
-use wire::write::WriteAnswer;
-
-// How many bytes were written and where in the message that was read its tail begins, or the refusal.
-#[derive(Clone, Copy)]
-pub enum RewriteAnswer {
-    Accepted { written: usize, tail: usize },
-    Refused(Refusal),
-}
 
 // The answer of the writer, with the tail beside it.
-pub fn beside_tail(w: WriteAnswer, tail: usize) -> RewriteAnswer
+pub fn beside_tail(w: Result<usize, Refusal>, tail: usize) -> Result<(usize, usize), Refusal>
     ensures { result ≡ beside_tail w tail }
 {
-    match w {
-        WriteAnswer::Accepted(written) => RewriteAnswer::Accepted { written, tail },
-        WriteAnswer::Refused(e) => RewriteAnswer::Refused(e),
-    }
+    let written = w?;
+    Ok((written, tail))
 }
