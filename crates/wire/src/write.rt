@@ -34,13 +34,13 @@ pub fn put_byte(x: u8, out: &mut [u8]) -> Result<usize, Refusal>
 pub fn put_two(x: u16, out: &mut [u8]) -> Result<usize, Refusal>
     ensures { Wrote (accepted (to_bytes 2 x)) out.old result out.new }
 {
-    put_bytes(&x.to_be_bytes(), out)
+    put_bytes(&u16::to_be_bytes(x), out)
 }
 
 pub fn put_eight(x: u64, out: &mut [u8]) -> Result<usize, Refusal>
     ensures { Wrote (accepted (to_bytes 8 x)) out.old result out.new }
 {
-    put_bytes(&x.to_be_bytes(), out)
+    put_bytes(&u64::to_be_bytes(x), out)
 }
 
 // A number that fits in `width` bytes, of which there are at most eight.
