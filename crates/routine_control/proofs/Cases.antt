@@ -13,12 +13,12 @@ use Rattle.paper.specs.Field.{part}
 use Rattle.paper.specs.RoutineControl.{SubFunction, known_sub, RoutineBytes, routine_bytes, whole_rest}
 use Rattle.paper.proofs.Places.{on, off, part-short, part_there}
 use Rattle.wire.specs.Refusals.{row}
-use Rattle.wire.specs.Reading.{refusal_in}
+use Rattle.wire.specs.Reading.{Seen}
 use Rattle.wire.specs.declared.refusal.Refusal as code-refusal
+use Rattle.std.specs.Prelude.{Ok, Err}
 use Rattle.wire.proofs.Left.{left}
-use Rattle.routine_control.specs.ThreeBytes.{bytes_of, seen_bytes, RoutineBytesRight}
+use Rattle.routine_control.specs.ThreeBytes.{bytes_of, RoutineBytesRight}
 use Rattle.routine_control.specs.declared.routine_bytes.RoutineBytes as code
-use Rattle.routine_control.specs.declared.routine_bytes.RoutineBytesAnswer.{RoutineBytesAnswer}
 
 -- ---- the three routine bytes
 abbrev head_of : ℕ → ℕ → RoutineBytes
@@ -47,8 +47,8 @@ module _ (s : List ℕ) (at : ℕ) where
       on (part 3) _ (drop at s) (part_there s at 3 h) (ap (λ (i : RoutineBytes). accepted (i leaving drop (at + 3) s)) same)
 
 -- ---- what stands after them
-module _ {s : List ℕ} {x : RoutineBytesAnswer} (right : RoutineBytesRight s 0 x) {b : code.RoutineBytes} {next : ℕ} (is : x ≡ RoutineBytesAnswer.Accepted b next) where
-  there : RoutineBytesRight s 0 (RoutineBytesAnswer.Accepted b next)
+module _ {s : List ℕ} {x : Seen code.RoutineBytes} (right : RoutineBytesRight s 0 x) {b : code.RoutineBytes} {next : ℕ} (is : x ≡ Ok (b, next)) where
+  there : RoutineBytesRight s 0 (Ok (b, next))
   there = subst (RoutineBytesRight s 0) is right
 
   -- the record begins at byte 3 and ends with the message
@@ -64,12 +64,12 @@ module _ {M : Type 0} (judged : ℕ → ℕ) (made : RoutineBytes → SubFunctio
       >>= (λ (f : SubFunction). whole_rest
       >>= (λ (r : List ℕ). give (made h f r))))
 
-  module _ {s : List ℕ} {x : RoutineBytesAnswer} (right : RoutineBytesRight s 0 x) where
+  module _ {s : List ℕ} {x : Seen code.RoutineBytes} (right : RoutineBytesRight s 0 x) where
     -- fewer than three bytes, whatever they are: the caller leaves with their refusal
-    pub too_few : {e r : code-refusal.Refusal} → x ≡ RoutineBytesAnswer.Refused e → r ≡ refusal_in (seen_bytes x) → refused (row r) ≡ routine s
-    too_few is from = off routine_bytes _ s (left right (ap seen_bytes is) from)
+    pub too_few : {e : code-refusal.Refusal} → x ≡ Err e → refused (row e) ≡ routine s
+    too_few is = off routine_bytes _ s (left right is)
 
-    module _ {b : code.RoutineBytes} {next : ℕ} (is : x ≡ RoutineBytesAnswer.Accepted b next) where
+    module _ {b : code.RoutineBytes} {next : ℕ} (is : x ≡ Ok (b, next)) where
       -- the sub-function is refused
       pub no_sub : {r : Refusal} → refused r ≡ known_sub (judged b.control) → refused r ≡ routine s
       unfolding refuse

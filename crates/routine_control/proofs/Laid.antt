@@ -4,41 +4,33 @@ use mathlib.Core.Path.{◌≡◌, refl}
 use Prim.Native.Nat.{ℕ, ◌+◌, ◌≤◌, ◌<◌}
 use mathlib.Core.List.{List, [], ◌∷◌}
 use native.Mathlib.Omega.{arith}
-use borrow.Author.Tests.{lt-leb, le-leb}
-use lib.Dec.{leb}
+use borrow.Author.Tests.{le-leb}
 use lib.ListN.{length, length-append}
-use Rattle.paper.specs.Answer.{Answer, accepted, wrong_format, check}
+use Rattle.std.specs.Prelude.{Result, Ok, Err}
+use Rattle.paper.specs.Answer.{accepted}
 use Rattle.paper.specs.Bytes.{to_bytes}
 use Rattle.paper.specs.RoutineControl.{routine_laid}
 use Rattle.paper.proofs.Bytes.{length_to_bytes}
 use Rattle.wire.specs.Writing.{Wrote}
 use Rattle.wire.specs.declared.refusal.Refusal.{Refusal}
-use Rattle.wire.specs.declared.write.WriteAnswer.{WriteAnswer}
 use Rattle.wire.proofs.Over.{rest, back, filled_more}
-use Rattle.wire.proofs.Writes.{refuses, writes, malformed, passed, filled}
+use Rattle.wire.proofs.Writes.{refuses, writes, passed, filled}
+use Rattle.routine_control.specs.ThreeBytes.{routine_out}
 
 module _ (b n : ℕ) (r : List ℕ) where
-  -- the message: the record is judged, and then the three parts are laid out
-  abbrev pub routine_out : Answer (List ℕ)
-  routine_out = check (leb (length r) 65535) (wrong_format 0) (accepted (routine_laid b n r))
-
   length_laid : length (routine_laid b n r) ≡ 3 + length r
   length_laid = omega (arith, length-append (to_bytes 2 n) r, length_to_bytes 2 n)
 
   module _ {old : List ℕ} where
-    -- the record is too long
-    pub too_long_lem : 65535 < length r → Wrote routine_out old (WriteAnswer.Refused (Refusal.WrongFormat 0)) old
-    too_long_lem h = malformed (rw (lt-leb _ _ h))
-
     module _ (fits : length r ≤ 65535) where
       -- too little room
-      pub no_room_lem : length old < 3 + length r → Wrote routine_out old (WriteAnswer.Refused (Refusal.NoRoom (3 + length r) (length old))) old
+      pub no_room_lem : length old < 3 + length r → Wrote (routine_out b n r) old (Err (Refusal.NoRoom (3 + length r) (length old))) old
       no_room_lem h = passed (rw (le-leb _ _ fits)) (refuses {bytes = routine_laid b n r} _ length_laid h)
 
       -- each part in the room that begins where the previous one ended
-      pub laid_out_lem : {x y z : List ℕ} {p q o : WriteAnswer} → 3 + length r ≤ length old
+      pub laid_out_lem : {x y z : List ℕ} {p q o : Result ℕ Refusal} → 3 + length r ≤ length old
           → Wrote (accepted (b ∷ [])) old p x → Wrote (accepted (to_bytes 2 n)) (rest 1 x) q y → Wrote (accepted r) (rest 3 (back 1 x y)) o z
-          → Wrote routine_out old (WriteAnswer.Accepted (3 + length r)) (back 3 (back 1 x y) z)
+          → Wrote (routine_out b n r) old (Ok (3 + length r)) (back 3 (back 1 x y) z)
       laid_out_lem h first second third =
           passed (rw (le-leb _ _ fits))
           (writes _ length_laid h

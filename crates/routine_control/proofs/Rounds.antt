@@ -13,12 +13,15 @@ use Rattle.paper.specs.Kind.{one_of}
 use Rattle.paper.specs.RoutineControl.{SubFunction, start_routine, stop_routine, request_routine_results, byte_of, sub_functions, known_sub, control_byte}
 use Rattle.paper.proofs.Fields.{reads-one-of}
 use Rattle.routine_control.specs.SubFunction.{Control, suppressable}
-use Rattle.routine_control.proofs.Codes.{known, low_bits, top_bit}
+use Rattle.routine_control.proofs.Codes.{low_bits, top_bit}
 
 -- ---- sub-functions
 -- the byte of a sub-function is read as that sub-function
 pub sub_round : (f : SubFunction) → known_sub (byte_of f) ≡ accepted f
-sub_round f = sym (known f refl)
+unfolding known_sub one_of
+sub_round start_routine = refl
+sub_round stop_routine = refl
+sub_round request_routine_results = refl
 
 -- a byte that is read as a sub-function is that sub-function's
 pub byte_round : (b : ℕ) {f : SubFunction} → known_sub b ≡ accepted f → byte_of f ≡ b

@@ -10,10 +10,11 @@ use denote.Triple.Clauses.{AtExit}
 use borrow.Fn.Kinds.{ended_of}
 use borrow.Fn.World.{ArgsD}
 use lib.ListN.{length}
+use Rattle.std.specs.Prelude.{Result, Ok, Err}
 use Rattle.paper.specs.Answer.{Answer, accepted, refused, Read, ◌leaving◌}
 use Rattle.paper.specs.RoutineControl.{SubFunction, start_routine, stop_routine, request_routine_results, RoutineRequest, RoutineResponse, read_routine_request, read_routine_response}
 use Rattle.wire.specs.declared.place.Place.{Place}
-use Rattle.wire.specs.declared.write.WriteAnswer.{WriteAnswer}
+use Rattle.wire.specs.declared.refusal.Refusal.{Refusal}
 use Rattle.wire.proofs.Refusals.{refusal_back, refusal-back}
 use Rattle.wire.proofs.Unique.{Determined, place_of, place_back}
 use Rattle.wire.proofs.UniqueWriting.{wrote_once}
@@ -22,11 +23,9 @@ use Rattle.routine_control.specs.Request.{request_said, request_place, RoutineRe
 use Rattle.routine_control.specs.Response.{response_said, response_place, RoutineResponseRight}
 use Rattle.routine_control.specs.declared.sub_function.RoutineControlSubFunction.{RoutineControlSubFunction}
 use Rattle.routine_control.specs.declared.sub_function.RoutineControlSubFunction.TheVariants.{StartRoutine, StopRoutine, RequestRoutineResults}
-use Rattle.routine_control.specs.declared.sub_function.SubFunctionAnswer.{SubFunctionAnswer}
 use Rattle.routine_control.specs.declared.sub_function.SuppressablePositiveResponse.{SuppressablePositiveResponse}
-use Rattle.routine_control.specs.declared.sub_function.SuppressableAnswer.{SuppressableAnswer}
-use Rattle.routine_control.specs.declared.request.RoutineControlRequestAnswer.{RoutineControlRequestAnswer}
-use Rattle.routine_control.specs.declared.response.RoutineControlResponseAnswer.{RoutineControlResponseAnswer}
+use Rattle.routine_control.specs.declared.request.RoutineControlRequest.{RoutineControlRequest}
+use Rattle.routine_control.specs.declared.response.RoutineControlResponse.{RoutineControlResponse}
 use Rattle.routine_control.proofs.nack.routine_control_allowed_nack_codes.Kinds as routine-codes-kinds
 use Rattle.routine_control.proofs.nack.routine_control_allowed_nack_codes.Reads as routine-codes
 use Rattle.routine_control.proofs.nack.request_file_transfer_allowed_nack_codes.Kinds as transfer-codes-kinds
@@ -35,8 +34,6 @@ use Rattle.routine_control.proofs.sub_function.RoutineControlSubFunction.from_by
 use Rattle.routine_control.proofs.sub_function.RoutineControlSubFunction.from_byte.Reads as sub-from-byte
 use Rattle.routine_control.proofs.sub_function.RoutineControlSubFunction.value.Kinds as value-kinds
 use Rattle.routine_control.proofs.sub_function.RoutineControlSubFunction.value.Reads as value
-use Rattle.routine_control.proofs.sub_function.SubFunctionAnswer.refusal.Kinds as sub-refusal-kinds
-use Rattle.routine_control.proofs.sub_function.SubFunctionAnswer.refusal.Reads as sub-refusal
 use Rattle.routine_control.proofs.sub_function.SuppressablePositiveResponse.from_byte.Kinds as suppress-from-byte-kinds
 use Rattle.routine_control.proofs.sub_function.SuppressablePositiveResponse.from_byte.Reads as suppress-from-byte
 use Rattle.routine_control.proofs.sub_function.SuppressablePositiveResponse.to_byte.Kinds as to-byte-kinds
@@ -71,13 +68,13 @@ sub_back_lem StartRoutine = refl
 sub_back_lem StopRoutine = refl
 sub_back_lem RequestRoutineResults = refl
 
-abbrev sub_answer_back : Answer SubFunction → SubFunctionAnswer
-sub_answer_back (accepted f) = SubFunctionAnswer.Accepted (sub_back f)
-sub_answer_back (refused e) = SubFunctionAnswer.Refused (refusal_back e)
+abbrev sub_answer_back : Answer SubFunction → Result RoutineControlSubFunction Refusal
+sub_answer_back (accepted f) = Ok (sub_back f)
+sub_answer_back (refused e) = Err (refusal_back e)
 
-sub-answer-back : (r : SubFunctionAnswer) → sub_answer_back (sub_said r) ≡ r
-sub-answer-back (SubFunctionAnswer.Accepted f) = ap SubFunctionAnswer.Accepted (sub_back_lem f)
-sub-answer-back (SubFunctionAnswer.Refused e) = ap SubFunctionAnswer.Refused (refusal-back e)
+sub-answer-back : (r : Result RoutineControlSubFunction Refusal) → sub_answer_back (sub_said r) ≡ r
+sub-answer-back (Ok f) = ap Ok (sub_back_lem f)
+sub-answer-back (Err e) = ap Err (refusal-back e)
 
 pub sub_from_byte_determined : Determined 0 sub-from-byte-kinds.ps sub-from-byte-kinds.r sub-from-byte.Post
 sub_from_byte_determined κs a x y r₁ r₂ p q = sym (sub-answer-back r₁) ∙ ap sub_answer_back (p ∙ sym q) ∙ sub-answer-back r₂
@@ -85,20 +82,17 @@ sub_from_byte_determined κs a x y r₁ r₂ p q = sym (sub-answer-back r₁) �
 pub value_determined : Determined 0 value-kinds.ps value-kinds.r value.Post
 value_determined κs a x y r₁ r₂ p q = p ∙ sym q
 
-pub sub_refusal_determined : Determined 0 sub-refusal-kinds.ps sub-refusal-kinds.r sub-refusal.Post
-sub_refusal_determined κs a x y r₁ r₂ p q = p ∙ sym q
-
 -- ---- the first byte of a request
 abbrev suppress_of : Bool → RoutineControlSubFunction → SuppressablePositiveResponse
 suppress_of suppress f = record { suppress_positive_response = suppress; value = f }
 
-abbrev suppress_back : Answer Control → SuppressableAnswer
-suppress_back (accepted c) = SuppressableAnswer.Accepted (suppress_of c.suppress (sub_back c.sub_function))
-suppress_back (refused e) = SuppressableAnswer.Refused (refusal_back e)
+abbrev suppress_back : Answer Control → Result SuppressablePositiveResponse Refusal
+suppress_back (accepted c) = Ok (suppress_of c.suppress (sub_back c.sub_function))
+suppress_back (refused e) = Err (refusal_back e)
 
-suppress-back : (r : SuppressableAnswer) → suppress_back (suppress_said r) ≡ r
-suppress-back (SuppressableAnswer.Accepted c) = ap (λ (f : RoutineControlSubFunction). SuppressableAnswer.Accepted (suppress_of c.suppress_positive_response f)) (sub_back_lem c.value)
-suppress-back (SuppressableAnswer.Refused e) = ap SuppressableAnswer.Refused (refusal-back e)
+suppress-back : (r : Result SuppressablePositiveResponse Refusal) → suppress_back (suppress_said r) ≡ r
+suppress-back (Ok c) = ap (λ (f : RoutineControlSubFunction). Ok (suppress_of c.suppress_positive_response f)) (sub_back_lem c.value)
+suppress-back (Err e) = ap Err (refusal-back e)
 
 pub suppress_from_byte_determined : Determined 0 suppress-from-byte-kinds.ps suppress-from-byte-kinds.r suppress-from-byte.Post
 suppress_from_byte_determined κs a x y r₁ r₂ p q = sym (suppress-back r₁) ∙ ap suppress_back (p ∙ sym q) ∙ suppress-back r₂
@@ -107,53 +101,53 @@ pub to_byte_determined : Determined 0 to-byte-kinds.ps to-byte-kinds.r to-byte.P
 to_byte_determined κs a x y r₁ r₂ p q = p ∙ sym q
 
 -- ---- requests
-abbrev request_of : Bool → ℕ → RoutineControlSubFunction → Place → RoutineControlRequestAnswer
+abbrev request_of : Bool → ℕ → RoutineControlSubFunction → Place → Result RoutineControlRequest Refusal
 request_of suppress identifier f p =
-    RoutineControlRequestAnswer.Accepted (record { suppress_positive_response = suppress; sub_function = f; routine_id = identifier; option_record = p })
+    Ok (record { suppress_positive_response = suppress; sub_function = f; routine_id = identifier; option_record = p })
 
 -- the answer that the paper's stands for
-abbrev pub request_back : Answer (Read RoutineRequest) → RoutineControlRequestAnswer
+abbrev pub request_back : Answer (Read RoutineRequest) → Result RoutineControlRequest Refusal
 request_back (accepted (m leaving t)) = request_of m.suppress m.identifier (sub_back m.sub_function) (place_of 3 (length m.«record»))
-request_back (refused e) = RoutineControlRequestAnswer.Refused (refusal_back e)
+request_back (refused e) = Err (refusal_back e)
 
-request-back : (s : List ℕ) (r : RoutineControlRequestAnswer) → request_place s r → request_back (request_said s r) ≡ r
-request-back s (RoutineControlRequestAnswer.Accepted q) (e, h) =
+request-back : (s : List ℕ) (r : Result RoutineControlRequest Refusal) → request_place s r → request_back (request_said s r) ≡ r
+request-back s (Ok q) (e, h) =
     ap₂ (request_of q.suppress_positive_response q.routine_id) (sub_back_lem q.sub_function) (place_back s q.option_record e (omega arith))
-request-back s (RoutineControlRequestAnswer.Refused e) h = ap RoutineControlRequestAnswer.Refused (refusal-back e)
+request-back s (Err e) h = ap Err (refusal-back e)
 
 -- the answer to a message is the paper's, led back
-pub request-is : {s : List ℕ} {r : RoutineControlRequestAnswer} → RoutineRequestRight s r → r ≡ request_back (read_routine_request s)
+pub request-is : {s : List ℕ} {r : Result RoutineControlRequest Refusal} → RoutineRequestRight s r → r ≡ request_back (read_routine_request s)
 request-is {s} {r} h = sym (request-back s r h.place) ∙ ap request_back h.paper
 
 pub read_request_determined : Determined 1 read-request-kinds.ps read-request-kinds.r read-request.Post
 read_request_determined κs a x y r₁ r₂ p q = request-is p ∙ sym (request-is q)
 
 -- the answer, and what the buffer, the fifth parameter, holds at the exit
-pub write_request_determined : (κs : Lfts 2) (a : ArgsD write-request.signature κs) (x y : AtExit (ended_of 2 write-request-kinds.ps write-request-kinds.r) κs) (r s : WriteAnswer)
+pub write_request_determined : (κs : Lfts 2) (a : ArgsD write-request.signature κs) (x y : AtExit (ended_of 2 write-request-kinds.ps write-request-kinds.r) κs) (r s : Result ℕ Refusal)
     → write-request-reads.Post κs a r x → write-request-reads.Post κs a s y → (r ≡ s) × (x.1.1.1.1.0.now ≡ y.1.1.1.1.0.now)
 write_request_determined κs a x y r s p q = wrote_once p q
 
 -- ---- responses
-abbrev response_of : ℕ → RoutineControlSubFunction → Place → RoutineControlResponseAnswer
-response_of identifier f p = RoutineControlResponseAnswer.Accepted (record { sub_function = f; routine_id = identifier; status_record = p })
+abbrev response_of : ℕ → RoutineControlSubFunction → Place → Result RoutineControlResponse Refusal
+response_of identifier f p = Ok (record { sub_function = f; routine_id = identifier; status_record = p })
 
 -- the answer that the paper's stands for
-abbrev pub response_back : Answer (Read RoutineResponse) → RoutineControlResponseAnswer
+abbrev pub response_back : Answer (Read RoutineResponse) → Result RoutineControlResponse Refusal
 response_back (accepted (m leaving t)) = response_of m.identifier (sub_back m.sub_function) (place_of 3 (length m.«record»))
-response_back (refused e) = RoutineControlResponseAnswer.Refused (refusal_back e)
+response_back (refused e) = Err (refusal_back e)
 
-response-back : (s : List ℕ) (r : RoutineControlResponseAnswer) → response_place s r → response_back (response_said s r) ≡ r
-response-back s (RoutineControlResponseAnswer.Accepted q) (e, h) = ap₂ (response_of q.routine_id) (sub_back_lem q.sub_function) (place_back s q.status_record e (omega arith))
-response-back s (RoutineControlResponseAnswer.Refused e) h = ap RoutineControlResponseAnswer.Refused (refusal-back e)
+response-back : (s : List ℕ) (r : Result RoutineControlResponse Refusal) → response_place s r → response_back (response_said s r) ≡ r
+response-back s (Ok q) (e, h) = ap₂ (response_of q.routine_id) (sub_back_lem q.sub_function) (place_back s q.status_record e (omega arith))
+response-back s (Err e) h = ap Err (refusal-back e)
 
 -- the answer to a message is the paper's, led back
-pub response-is : {s : List ℕ} {r : RoutineControlResponseAnswer} → RoutineResponseRight s r → r ≡ response_back (read_routine_response s)
+pub response-is : {s : List ℕ} {r : Result RoutineControlResponse Refusal} → RoutineResponseRight s r → r ≡ response_back (read_routine_response s)
 response-is {s} {r} h = sym (response-back s r h.place) ∙ ap response_back h.paper
 
 pub read_response_determined : Determined 1 read-response-kinds.ps read-response-kinds.r read-response.Post
 read_response_determined κs a x y r₁ r₂ p q = response-is p ∙ sym (response-is q)
 
 -- the answer, and what the buffer, the fourth parameter, holds at the exit
-pub write_response_determined : (κs : Lfts 2) (a : ArgsD write-response.signature κs) (x y : AtExit (ended_of 2 write-response-kinds.ps write-response-kinds.r) κs) (r s : WriteAnswer)
+pub write_response_determined : (κs : Lfts 2) (a : ArgsD write-response.signature κs) (x y : AtExit (ended_of 2 write-response-kinds.ps write-response-kinds.r) κs) (r s : Result ℕ Refusal)
     → write-response-reads.Post κs a r x → write-response-reads.Post κs a s y → (r ≡ s) × (x.1.1.1.0.now ≡ y.1.1.1.0.now)
 write_response_determined κs a x y r s p q = wrote_once p q

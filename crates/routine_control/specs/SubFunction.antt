@@ -1,26 +1,21 @@
 -- What the answers about the first byte of a routine message say, in the paper's terms.
-use Rattle.std.specs.Prelude.{Bool, ℕ, ◌%◌, leb}
+use Rattle.std.specs.Prelude.{Bool, ℕ, ◌%◌, leb, Result, Ok, Err}
 use Rattle.paper.specs.Answer.{Answer, accepted, refused}
 use Rattle.paper.specs.RoutineControl.{SubFunction, start_routine, stop_routine, request_routine_results, known_sub}
 use Rattle.wire.specs.Refusals.{row}
 use Rattle.wire.specs.declared.refusal.Refusal.{Refusal}
 use Rattle.routine_control.specs.declared.sub_function.RoutineControlSubFunction.{RoutineControlSubFunction}
 use Rattle.routine_control.specs.declared.sub_function.RoutineControlSubFunction.TheVariants.{StartRoutine, StopRoutine, RequestRoutineResults}
-use Rattle.routine_control.specs.declared.sub_function.SubFunctionAnswer.{SubFunctionAnswer}
-use Rattle.routine_control.specs.declared.sub_function.SuppressableAnswer.{SuppressableAnswer}
+use Rattle.routine_control.specs.declared.sub_function.SuppressablePositiveResponse.{SuppressablePositiveResponse}
 
 abbrev pub sub_of : RoutineControlSubFunction → SubFunction
 sub_of StartRoutine = start_routine
 sub_of StopRoutine = stop_routine
 sub_of RequestRoutineResults = request_routine_results
 
-abbrev pub sub_said : SubFunctionAnswer → Answer SubFunction
-sub_said (SubFunctionAnswer.Accepted f) = accepted (sub_of f)
-sub_said (SubFunctionAnswer.Refused e) = refused (row e)
-
-abbrev pub sub_refusal : SubFunctionAnswer → Refusal
-sub_refusal (SubFunctionAnswer.Accepted f) = Refusal.WrongFormat 0
-sub_refusal (SubFunctionAnswer.Refused e) = e
+abbrev pub sub_said : Result RoutineControlSubFunction Refusal → Answer SubFunction
+sub_said (Ok f) = accepted (sub_of f)
+sub_said (Err e) = refused (row e)
 
 -- the first byte of a request: whether to be silent, and the sub-function
 pub record Control : Type 0 where
@@ -35,10 +30,6 @@ control_of suppress (refused r) = refused r
 unfoldable pub suppressable : ℕ → Answer Control
 suppressable b = control_of (leb 128 b) (known_sub (b % 128))
 
-abbrev pub suppress_said : SuppressableAnswer → Answer Control
-suppress_said (SuppressableAnswer.Accepted c) = accepted (record { suppress = c.suppress_positive_response; sub_function = sub_of c.value })
-suppress_said (SuppressableAnswer.Refused e) = refused (row e)
-
-abbrev pub suppress_refusal : SuppressableAnswer → Refusal
-suppress_refusal (SuppressableAnswer.Accepted c) = Refusal.WrongFormat 0
-suppress_refusal (SuppressableAnswer.Refused e) = e
+abbrev pub suppress_said : Result SuppressablePositiveResponse Refusal → Answer Control
+suppress_said (Ok c) = accepted (record { suppress = c.suppress_positive_response; sub_function = sub_of c.value })
+suppress_said (Err e) = refused (row e)

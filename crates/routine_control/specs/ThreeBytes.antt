@@ -1,17 +1,18 @@
--- What the answer about the three routine bytes says, in the paper's terms.
-use Rattle.std.specs.Prelude.{ℕ, List}
+-- What requests and responses share, in the paper's terms: the answer about the three routine bytes, and the bytes of a message that is written.
+use Rattle.std.specs.Prelude.{ℕ, List, length, leb}
+use Rattle.paper.specs.Answer.{Answer, accepted, wrong_format, check}
 use Rattle.paper.specs.RoutineControl as paper
-use Rattle.wire.specs.Reading.{Seen, found, stopped, Right, Onwards}
+use Rattle.paper.specs.RoutineControl.{routine_laid}
+use Rattle.wire.specs.Reading.{Seen, Right, Onwards}
 use Rattle.routine_control.specs.declared.routine_bytes.RoutineBytes.{RoutineBytes}
-use Rattle.routine_control.specs.declared.routine_bytes.RoutineBytesAnswer.{RoutineBytesAnswer}
 
 abbrev pub bytes_of : RoutineBytes → paper.RoutineBytes
 bytes_of b = record { control = b.control; identifier = b.identifier }
 
-abbrev pub seen_bytes : RoutineBytesAnswer → Seen RoutineBytes
-seen_bytes (RoutineBytesAnswer.Accepted b next) = found b next
-seen_bytes (RoutineBytesAnswer.Refused e) = stopped e
-
 -- the answer r at a position of the message s is the paper's; the next field begins three bytes on
-abbrev pub RoutineBytesRight : List ℕ → ℕ → RoutineBytesAnswer → Type 0
-RoutineBytesRight s at r = Right RoutineBytes paper.RoutineBytes bytes_of paper.routine_bytes (λ (b : RoutineBytes) (next : ℕ). Onwards s at 3 next) s at (seen_bytes r)
+abbrev pub RoutineBytesRight : List ℕ → ℕ → Seen RoutineBytes → Type 0
+RoutineBytesRight s at r = Right RoutineBytes paper.RoutineBytes bytes_of paper.routine_bytes (λ (b : RoutineBytes) (next : ℕ). Onwards s at 3 next) s at r
+
+-- the message that begins with these bytes: its record is judged, and then the three parts are laid out
+abbrev pub routine_out : (control identifier : ℕ) → List ℕ → Answer (List ℕ)
+routine_out control identifier r = check (leb (length r) 65535) (wrong_format 0) (accepted (routine_laid control identifier r))

@@ -1,53 +1,40 @@
 // The three sub-functions, and the byte of a request that may also ask for silence.
 ghost use Rattle.std.specs.Prelude.{◌≡◌};
 ghost use Rattle.paper.specs.RoutineControl.{byte_of, known_sub, control_byte};
-ghost use Rattle.routine_control.specs.SubFunction.{sub_of, sub_said, sub_refusal, suppress_said, suppress_refusal, suppressable};
+ghost use Rattle.routine_control.specs.SubFunction.{sub_of, sub_said, suppress_said, suppressable};
 
 use wire::refusal::Refusal;
 
-#[derive(Clone, Copy)]
+#[derive(Clone, Copy, Debug, PartialEq, Eq)]
 pub enum RoutineControlSubFunction {
     StartRoutine,
     StopRoutine,
     RequestRoutineResults,
 }
 
-#[derive(Clone, Copy)]
-pub enum SubFunctionAnswer {
-    Accepted(RoutineControlSubFunction),
-    Refused(Refusal),
-}
+// The sub-function of a byte; any byte but 1, 2 and 3 is refusal 4 with the byte.
+impl TryFrom<u8> for RoutineControlSubFunction {
+    type Error = Refusal;
 
-impl SubFunctionAnswer {
-    // The refusal; of a sub-function that was accepted there is none, and WrongFormat stands in.
-    pub fn refusal(self) -> Refusal
-        ensures { result ≡ sub_refusal self }
-    {
-        match self {
-            SubFunctionAnswer::Refused(e) => e,
-            SubFunctionAnswer::Accepted(_) => Refusal::WrongFormat { good: 0 },
-        }
-    }
-}
+    ghost try_from_gives = { λ b r. sub_said r ≡ known_sub b };
 
-impl RoutineControlSubFunction {
-    // The sub-function of a byte; any byte but 1, 2 and 3 is refusal 4 with the byte.
-    pub fn from_byte(b: u8) -> SubFunctionAnswer
-        ensures { sub_said result ≡ known_sub b }
-    {
+    #[tactic(auto, unfolding(paper::specs::RoutineControl::known_sub, paper::specs::Kind::one_of))]
+    fn try_from(b: u8) -> Result<RoutineControlSubFunction, Refusal> {
         match b {
-            0x01 => SubFunctionAnswer::Accepted(RoutineControlSubFunction::StartRoutine),
-            0x02 => SubFunctionAnswer::Accepted(RoutineControlSubFunction::StopRoutine),
-            0x03 => SubFunctionAnswer::Accepted(RoutineControlSubFunction::RequestRoutineResults),
-            _ => SubFunctionAnswer::Refused(Refusal::UnknownSubFunction(b)),
+            0x01 => Ok(RoutineControlSubFunction::StartRoutine),
+            0x02 => Ok(RoutineControlSubFunction::StopRoutine),
+            0x03 => Ok(RoutineControlSubFunction::RequestRoutineResults),
+            _ => Err(Refusal::UnknownSubFunction(b)),
         }
     }
+}
 
-    // The byte of the sub-function.
-    pub fn value(self) -> u8
-        ensures { result ≡ byte_of (sub_of self) }
-    {
-        match self {
+// The byte of a sub-function.
+impl From<RoutineControlSubFunction> for u8 {
+    ghost from_gives = { λ f b. b ≡ byte_of (sub_of f) };
+
+    fn from(f: RoutineControlSubFunction) -> u8 {
+        match f {
             RoutineControlSubFunction::StartRoutine => 0x01,
             RoutineControlSubFunction::StopRoutine => 0x02,
             RoutineControlSubFunction::RequestRoutineResults => 0x03,
@@ -55,55 +42,67 @@ impl RoutineControlSubFunction {
     }
 }
 
+// The two conversions by name.
+impl RoutineControlSubFunction {
+    pub fn from_byte(b: u8) -> Result<RoutineControlSubFunction, Refusal>
+        ensures { sub_said result ≡ known_sub b }
+    {
+        RoutineControlSubFunction::try_from(b)
+    }
+
+    pub fn value(self) -> u8
+        ensures { result ≡ byte_of (sub_of self) }
+    {
+        u8::from(self)
+    }
+}
+
 // The first byte of a request: bit 0x80 asks that the positive response be suppressed, the low seven bits are the sub-function.
-#[derive(Clone, Copy)]
+#[derive(Clone, Copy, Debug, PartialEq, Eq)]
 pub struct SuppressablePositiveResponse {
     pub suppress_positive_response: bool,
     pub value: RoutineControlSubFunction,
 }
 
-#[derive(Clone, Copy)]
-pub enum SuppressableAnswer {
-    Accepted(SuppressablePositiveResponse),
-    Refused(Refusal),
+// The low seven bits are judged, and refusal 4 carries those seven.
+impl TryFrom<u8> for SuppressablePositiveResponse {
+    type Error = Refusal;
+
+    ghost try_from_gives = { λ b r. suppress_said r ≡ suppressable b };
+
+    fn try_from(b: u8) -> Result<SuppressablePositiveResponse, Refusal> {
+        let value = RoutineControlSubFunction::try_from(b % 128)?;
+        Ok(SuppressablePositiveResponse {
+            suppress_positive_response: 128 <= b,
+            value,
+        })
+    }
 }
 
-impl SuppressableAnswer {
-    // The refusal; of a byte that was accepted there is none, and WrongFormat stands in.
-    pub(crate) fn refusal(self) -> Refusal
-        ensures { result ≡ suppress_refusal self }
-    {
-        match self {
-            SuppressableAnswer::Refused(e) => e,
-            SuppressableAnswer::Accepted(_) => Refusal::WrongFormat { good: 0 },
+impl From<SuppressablePositiveResponse> for u8 {
+    ghost from_gives = { λ c b. b ≡ control_byte c.suppress_positive_response (sub_of c.value) };
+
+    fn from(control: SuppressablePositiveResponse) -> u8 {
+        let b = u8::from(control.value);
+        if control.suppress_positive_response {
+            128 + b
+        } else {
+            b
         }
     }
 }
 
+// The two conversions by name.
 impl SuppressablePositiveResponse {
-    // The low seven bits are judged, and refusal 4 carries those seven.
-    pub fn from_byte(b: u8) -> SuppressableAnswer
+    pub fn from_byte(b: u8) -> Result<SuppressablePositiveResponse, Refusal>
         ensures { suppress_said result ≡ suppressable b }
     {
-        let f = RoutineControlSubFunction::from_byte(b % 128);
-        let SubFunctionAnswer::Accepted(value) = f else {
-            return SuppressableAnswer::Refused(f.refusal());
-        };
-        SuppressableAnswer::Accepted(SuppressablePositiveResponse {
-            suppress_positive_response: 128 <= b,
-            value,
-        })
+        SuppressablePositiveResponse::try_from(b)
     }
 
     pub fn to_byte(self) -> u8
         ensures { result ≡ control_byte self.suppress_positive_response (sub_of self.value) }
     {
-        let f = self.value;
-        let b = f.value();
-        if self.suppress_positive_response {
-            128 + b
-        } else {
-            b
-        }
+        u8::from(self)
     }
 }
