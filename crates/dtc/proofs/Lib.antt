@@ -1,5 +1,4 @@
 pub mod Bits
-pub mod OneByte
 pub mod Records
 pub mod Rounds
 pub mod Unique

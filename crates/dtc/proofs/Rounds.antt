@@ -3,6 +3,7 @@
 use mathlib.Core.Path.{◌≡◌, refl, sym, ap, ap₂, ◌∙◌}
 use Prim.Native.Nat.{ℕ, ◌≤◌, ◌<◌}
 use borrow.Author.Tests.{lt-leb}
+use Rattle.std.specs.Prelude.{Result, Ok, Err}
 use Rattle.paper.specs.Answer.{Answer, accepted, refused}
 use Rattle.paper.specs.Bytes.{Bytes}
 use Rattle.paper.specs.TroubleCode.{TroubleCode, number_of, from_number, trouble_code_bytes}
@@ -14,9 +15,8 @@ use Rattle.paper.specs.TroubleCode.{Format, format_of, sae_j2012_da_format00, is
 use Rattle.paper.proofs.TroubleCode.{number_there, number_back}
 use Rattle.wire.proofs.Refusals.{refusal_back, refusal-back}
 use Rattle.wire.specs.declared.refusal.Refusal.{Refusal}
-use Rattle.dtc.specs.Status.{code_of, number_said, group_byte, group_name, format_byte, format_name}
+use Rattle.dtc.specs.Status.{code_of, number_said, group_byte, group_name, GroupOf, format_byte, format_name, FormatOf}
 use Rattle.dtc.specs.declared.status.DtcRecord.{DtcRecord}
-use Rattle.dtc.specs.declared.status.DtcRecordAnswer.{DtcRecordAnswer}
 use Rattle.dtc.specs.declared.status.FunctionalGroupIdentifier.{FunctionalGroupIdentifier}
 use Rattle.dtc.specs.declared.status.DtcFormatIdentifier.{DtcFormatIdentifier}
 use Rattle.dtc.proofs.Bits.{bits_determine}
@@ -26,28 +26,28 @@ use Rattle.dtc.proofs.Bits.{bits_determine}
 abbrev pub record_of : TroubleCode → DtcRecord
 record_of c = record { high_byte = c.high; middle_byte = c.middle; low_byte = c.low }
 
-abbrev pub number_answer : Answer TroubleCode → DtcRecordAnswer
-number_answer (accepted c) = DtcRecordAnswer.Accepted (record_of c)
-number_answer (refused e) = DtcRecordAnswer.Refused (refusal_back e)
+abbrev pub number_answer : Answer TroubleCode → Result DtcRecord Refusal
+number_answer (accepted c) = Ok (record_of c)
+number_answer (refused e) = Err (refusal_back e)
 
 -- an answer is found again from what it says
-pub answer-again : (r : DtcRecordAnswer) → number_answer (number_said r) ≡ r
-answer-again (DtcRecordAnswer.Accepted c) = refl
-answer-again (DtcRecordAnswer.Refused e) = ap DtcRecordAnswer.Refused (refusal-back e)
+pub answer-again : (r : Result DtcRecord Refusal) → number_answer (number_said r) ≡ r
+answer-again (Ok c) = refl
+answer-again (Err e) = ap Err (refusal-back e)
 
 -- a number of up to three bytes: what keeps the promise of `from_u32` is a record, and that record has the number
-pub from-number : (n : ℕ) (r : DtcRecordAnswer) → number_said r ≡ from_number n → n ≤ 0x00FFFFFF → (c : DtcRecord) × (r ≡ DtcRecordAnswer.Accepted c) × (number_of (code_of c) ≡ n)
+pub from-number : (n : ℕ) (r : Result DtcRecord Refusal) → number_said r ≡ from_number n → n ≤ 0x00FFFFFF → (c : DtcRecord) × (r ≡ Ok c) × (number_of (code_of c) ≡ n)
 from-number n r e h =
     let (c, is, has) = number_there n h in
     (record_of c, sym (answer-again r) ∙ ap number_answer (e ∙ is), has)
 
 -- a larger one: it is the refusal with the number
-pub above_number : (n : ℕ) (r : DtcRecordAnswer) → number_said r ≡ from_number n → 0x00FFFFFF < n → r ≡ DtcRecordAnswer.Refused (Refusal.NoTroubleCode n)
+pub above_number : (n : ℕ) (r : Result DtcRecord Refusal) → number_said r ≡ from_number n → 0x00FFFFFF < n → r ≡ Err (Refusal.NoTroubleCode n)
 unfolding from_number
 above_number n r e h = sym (answer-again r) ∙ ap number_answer e ∙ rw (lt-leb n 0x00FFFFFF h)
 
 -- the number of a record: what keeps the promise of `from_u32` at it is the record
-pub back_to_record : (c : DtcRecord) → Bytes (trouble_code_bytes (code_of c)) → (r : DtcRecordAnswer) → number_said r ≡ from_number (number_of (code_of c)) → r ≡ DtcRecordAnswer.Accepted c
+pub back_to_record : (c : DtcRecord) → Bytes (trouble_code_bytes (code_of c)) → (r : Result DtcRecord Refusal) → number_said r ≡ from_number (number_of (code_of c)) → r ≡ Ok c
 back_to_record c h r e = sym (answer-again r) ∙ ap number_answer (e ∙ number_back (code_of c) h)
 
 -- ---- bytes and groups
@@ -69,10 +69,6 @@ group_again (FunctionalGroupIdentifier.IsoSaeReserved c) = refl
 -- two groups with the same byte and the same name are the same
 pub group_once : (g h : FunctionalGroupIdentifier) → group_byte g ≡ group_byte h → group_name g ≡ group_name h → g ≡ h
 group_once g h e n = sym (group_again g) ∙ ap₂ group_at n e ∙ group_again h
-
--- what keeps the promise of `from_byte`, and of `decode`: the byte is b, and the name is b's
-abbrev pub GroupOf : ℕ → FunctionalGroupIdentifier → Type 0
-GroupOf b g = (group_byte g ≡ b) × (group_name g ≡ group_of b)
 
 -- byte to group to byte: the value of b's group is b
 pub group_value : (b : ℕ) (g : FunctionalGroupIdentifier) → GroupOf b g → (v : ℕ) → v ≡ group_byte g → v ≡ b
@@ -102,9 +98,6 @@ format-again (DtcFormatIdentifier.IsoSaeReserved c) = refl
 -- two formats with the same byte and the same name are the same
 pub format_once : (f g : DtcFormatIdentifier) → format_byte f ≡ format_byte g → format_name f ≡ format_name g → f ≡ g
 format_once f g e n = sym (format-again f) ∙ ap₂ format_at n e ∙ format-again g
-
-abbrev pub FormatOf : ℕ → DtcFormatIdentifier → Type 0
-FormatOf b f = (format_byte f ≡ b) × (format_name f ≡ format_of b)
 
 -- byte to format to byte: the value of b's format is b
 pub format-value : (b : ℕ) (f : DtcFormatIdentifier) → FormatOf b f → (v : ℕ) → v ≡ format_byte f → v ≡ b

@@ -3,46 +3,35 @@
 use mathlib.Core.Path.{◌≡◌, refl, sym, ap, ◌∙◌}
 use Prim.Native.Nat.{ℕ, ◌-◌}
 use mathlib.Core.List.{List}
-use contract.Lifetimes.{Lfts}
-use denote.Triple.Clauses.{AtExit}
-use borrow.Fn.Kinds.{Dens, ended_of}
+use denote.RattleType.{RattleType}
+use denote.Param.Laws.{Laws}
 use lib.ListN.{length}
+use Rattle.std.specs.Prelude.{Some, None, Ok, Err}
 use Rattle.paper.specs.Answer.{Answer, accepted, refused, ◌leaving◌}
 use Rattle.paper.specs.TroubleCode.{Next, none, next, group_of}
-use Rattle.wire.specs.Reading.{Seen, found, stopped}
-use Rattle.wire.specs.declared.write.WriteAnswer.{WriteAnswer}
 use Rattle.wire.proofs.Refusals.{refusal_back, refusal-back}
 use Rattle.wire.proofs.Unique.{Determined, tail_back, once}
-use Rattle.wire.proofs.UniqueWriting.{wrote_once}
-use Rattle.dtc.specs.Status.{seen_record, next_said, next_place, seen_status, seen_severity, group_byte, group_name, seen_group, seen_number}
-use Rattle.dtc.specs.declared.status.DtcRecord.{DtcRecord}
-use Rattle.dtc.specs.declared.status.DtcRecordRead.{DtcRecordRead}
-use Rattle.dtc.specs.declared.status.DtcRecordNext.{DtcRecordNext}
-use Rattle.dtc.specs.declared.status.DtcStatusMask.{DtcStatusMask}
-use Rattle.dtc.specs.declared.status.DtcStatusMaskRead.{DtcStatusMaskRead}
-use Rattle.dtc.specs.declared.status.DtcSeverityMask.{DtcSeverityMask}
-use Rattle.dtc.specs.declared.status.DtcSeverityMaskRead.{DtcSeverityMaskRead}
+use Rattle.wire.proofs.UniqueWriting.{WritesOnce, wrote_once}
+use Rattle.dtc.specs.Status.{SeenNext, next_said, next_place, group_byte, group_name}
+use Rattle.dtc.specs.declared.status.Mask.{Mask}
 use Rattle.dtc.specs.declared.status.FunctionalGroupIdentifier.{FunctionalGroupIdentifier}
-use Rattle.dtc.specs.declared.status.FunctionalGroupIdentifierRead.{FunctionalGroupIdentifierRead}
 use Rattle.dtc.specs.declared.status.DtcStoredDataRecordNumber.{DtcStoredDataRecordNumber}
-use Rattle.dtc.specs.declared.status.DtcStoredDataRecordNumberRead.{DtcStoredDataRecordNumberRead}
 use Rattle.dtc.proofs.Rounds.{record_of, number_answer, answer-again, group_at, group_again, group_once, format_once}
 use Rattle.dtc.proofs.status.DtcRecord as code
-use Rattle.dtc.proofs.status.DtcStatusMask as status
-use Rattle.dtc.proofs.status.DtcSeverityMask as severity
+use Rattle.dtc.proofs.status.DtcRecordTryFromU32 as of_number
+use Rattle.dtc.proofs.status.U32FromDtcRecord as as_number
+use Rattle.dtc.proofs.status.Mask as mask
+use Rattle.dtc.proofs.status.Mask+Status as status
+use Rattle.dtc.proofs.status.Mask+Severity as severity
 use Rattle.dtc.proofs.status.FunctionalGroupIdentifier as group
+use Rattle.dtc.proofs.status.FunctionalGroupIdentifierFromU8 as group_of_byte
+use Rattle.dtc.proofs.status.U8FromFunctionalGroupIdentifier as byte_of_group
 use Rattle.dtc.proofs.status.DtcFormatIdentifier as format
+use Rattle.dtc.proofs.status.DtcFormatIdentifierFromU8 as format_of_byte
+use Rattle.dtc.proofs.status.U8FromDtcFormatIdentifier as byte_of_format
 use Rattle.dtc.proofs.status.DtcStoredDataRecordNumber as number
 
 -- ---- trouble codes
-abbrev code_read : Seen DtcRecord → DtcRecordRead
-code_read (found v after) = DtcRecordRead.Accepted v after
-code_read (stopped e) = DtcRecordRead.Refused e
-
-code-again : (r : DtcRecordRead) → code_read (seen_record r) ≡ r
-code-again (DtcRecordRead.Accepted v after) = refl
-code-again (DtcRecordRead.Refused e) = refl
-
 pub code_new_determined : Determined 0 code.new.Kinds.ps code.new.Kinds.r code.new.Reads.Post
 code_new_determined κs a x y r₁ r₂ p q = ap record_of (p ∙ sym q)
 
@@ -64,54 +53,58 @@ code_to_u32_determined κs a x y r₁ r₂ p q = p ∙ sym q
 pub code_from_u32_determined : Determined 0 code.from_u32.Kinds.ps code.from_u32.Kinds.r code.from_u32.Reads.Post
 code_from_u32_determined κs a x y r₁ r₂ p q = sym (answer-again r₁) ∙ ap number_answer (p ∙ sym q) ∙ answer-again r₂
 
+pub code_try_from_determined : Determined 0 of_number.try_from.Kinds.ps of_number.try_from.Kinds.r of_number.try_from.Reads.Post
+code_try_from_determined κs a x y r₁ r₂ p q = sym (answer-again r₁) ∙ ap number_answer (p ∙ sym q) ∙ answer-again r₂
+
+pub code_into_u32_determined : Determined 0 as_number.from.Kinds.ps as_number.from.Kinds.r as_number.from.Reads.Post
+code_into_u32_determined κs a x y r₁ r₂ p q = p ∙ sym q
+
 pub code_decode_determined : Determined 1 code.decode.Kinds.ps code.decode.Kinds.r code.decode.Reads.Post
-code_decode_determined κs a x y = once record_of (λ c after h. (refl, h.1)) seen_record code_read code-again
+code_decode_determined κs a x y r₁ r₂ = once record_of (λ c after h. (refl, h.1))
 
 -- the next record, from the paper's answer to a message of n bytes
-abbrev next_back : ℕ → Answer Next → DtcRecordNext
-next_back n (accepted none) = DtcRecordNext.Nothing
-next_back n (accepted (next (c leaving t))) = DtcRecordNext.Record (record_of c) (n - length t)
-next_back n (refused e) = DtcRecordNext.Refused (refusal_back e)
+abbrev next_back : ℕ → Answer Next → SeenNext
+next_back n (accepted none) = Ok None
+next_back n (accepted (next (c leaving t))) = Ok (Some (record_of c, n - length t))
+next_back n (refused e) = Err (refusal_back e)
 
-next-again : (s : List ℕ) (at : ℕ) (r : DtcRecordNext) → next_place s at r → next_back (length s) (next_said s r) ≡ r
-next-again s at DtcRecordNext.Nothing h = refl
-next-again s at (DtcRecordNext.Record c after) h = ap (DtcRecordNext.Record c) (tail_back s after h.1)
-next-again s at (DtcRecordNext.Refused e) h = ap DtcRecordNext.Refused (refusal-back e)
+next-again : (s : List ℕ) (at : ℕ) (r : SeenNext) → next_place s at r → next_back (length s) (next_said s r) ≡ r
+next-again s at (Ok None) h = refl
+next-again s at (Ok (Some (c, after))) h = ap (λ (n : ℕ). Ok (Some (c, n))) (tail_back s after h.1)
+next-again s at (Err e) h = ap Err (refusal-back e)
 
 pub code_decode_next_determined : Determined 1 code.decode_next.Kinds.ps code.decode_next.Kinds.r code.decode_next.Reads.Post
 code_decode_next_determined κs a x y r₁ r₂ p q =
     let (s, (at, _)) = a in
     sym (next-again s.now at r₁ p.place) ∙ ap (next_back (length s.now)) (p.paper ∙ sym q.paper) ∙ next-again s.now at r₂ q.place
 
--- of two writings the answers are the same, and what the buffer holds at the exit, `x.1.0`, is
-pub code_encode_determined : (κs : Lfts 1) (a : Dens κs code.encode.Kinds.ps) (x y : AtExit (ended_of 1 code.encode.Kinds.ps code.encode.Kinds.r) κs) (r s : WriteAnswer)
-    → code.encode.Reads.Post κs a r x → code.encode.Reads.Post κs a s y → (r ≡ s) × (x.1.0.now ≡ y.1.0.now)
-code_encode_determined κs a x y r s p q = wrote_once p q
+pub code_encode_determined : WritesOnce 1 code.encode.Kinds.ps code.encode.Kinds.r (λ κs x. x.1.0) code.encode.Reads.Post
+code_encode_determined κs a x y r₁ r₂ p q = wrote_once p q
+
+-- ---- masks, whatever their names are
+abbrev mask_holding : {K : Type 0} → ℕ → Mask K
+mask_holding b = record { bits = b; names = record {} }
+
+module _ (T : RattleType) (laws : Laws T) where
+  pub mask_from_bits_determined : Determined 1 (mask.from_bits.Kinds.ps T laws) (mask.from_bits.Kinds.r T laws) (mask.from_bits.Reads.Post T laws)
+  mask_from_bits_determined κs a x y r₁ r₂ p q = ap mask_holding (p ∙ sym q)
+
+  pub mask_union_determined : Determined 1 (mask.union.Kinds.ps T laws) (mask.union.Kinds.r T laws) (mask.union.Reads.Post T laws)
+  mask_union_determined κs a x y r₁ r₂ p q = ap mask_holding (p ∙ sym q)
+
+  pub mask_intersection_determined : Determined 1 (mask.intersection.Kinds.ps T laws) (mask.intersection.Kinds.r T laws) (mask.intersection.Reads.Post T laws)
+  mask_intersection_determined κs a x y r₁ r₂ p q = ap mask_holding (p ∙ sym q)
+
+  pub mask_bits_determined : Determined 1 (mask.bits.Kinds.ps T laws) (mask.bits.Kinds.r T laws) (mask.bits.Reads.Post T laws)
+  mask_bits_determined κs a x y r₁ r₂ p q = p ∙ sym q
+
+  pub mask_decode_determined : Determined 2 (mask.decode.Kinds.ps T laws) (mask.decode.Kinds.r T laws) (mask.decode.Reads.Post T laws)
+  mask_decode_determined κs a x y r₁ r₂ = once mask_holding (λ m after h. (refl, h.1))
+
+  pub mask_encode_determined : WritesOnce 2 (mask.encode.Kinds.ps T laws) (mask.encode.Kinds.r T laws) (λ κs x. x.1.0) (mask.encode.Reads.Post T laws)
+  mask_encode_determined κs a x y r₁ r₂ p q = wrote_once p q
 
 -- ---- the status mask
-abbrev status_of : ℕ → DtcStatusMask
-status_of b = record { bits = b }
-
-abbrev status_read : Seen DtcStatusMask → DtcStatusMaskRead
-status_read (found v after) = DtcStatusMaskRead.Accepted v after
-status_read (stopped e) = DtcStatusMaskRead.Refused e
-
-status-again : (r : DtcStatusMaskRead) → status_read (seen_status r) ≡ r
-status-again (DtcStatusMaskRead.Accepted v after) = refl
-status-again (DtcStatusMaskRead.Refused e) = refl
-
-pub status_from_bits_determined : Determined 0 status.from_bits.Kinds.ps status.from_bits.Kinds.r status.from_bits.Reads.Post
-status_from_bits_determined κs a x y r₁ r₂ p q = ap status_of (p ∙ sym q)
-
-pub status_union_determined : Determined 0 status.union.Kinds.ps status.union.Kinds.r status.union.Reads.Post
-status_union_determined κs a x y r₁ r₂ p q = ap status_of (p ∙ sym q)
-
-pub status_intersection_determined : Determined 0 status.intersection.Kinds.ps status.intersection.Kinds.r status.intersection.Reads.Post
-status_intersection_determined κs a x y r₁ r₂ p q = ap status_of (p ∙ sym q)
-
-pub status_bits_determined : Determined 0 status.bits.Kinds.ps status.bits.Kinds.r status.bits.Reads.Post
-status_bits_determined κs a x y r₁ r₂ p q = p ∙ sym q
-
 pub status_test_failed_determined : Determined 0 status.test_failed.Kinds.ps status.test_failed.Kinds.r status.test_failed.Reads.Post
 status_test_failed_determined κs a x y r₁ r₂ p q = p ∙ sym q
 
@@ -144,37 +137,7 @@ status-warning-indicator-requested-determined κs a x y r₁ r₂ p q = p ∙ sy
 pub status_matches_determined : Determined 0 status.matches.Kinds.ps status.matches.Kinds.r status.matches.Reads.Post
 status_matches_determined κs a x y r₁ r₂ p q = p ∙ sym q
 
-pub status_decode_determined : Determined 1 status.decode.Kinds.ps status.decode.Kinds.r status.decode.Reads.Post
-status_decode_determined κs a x y = once status_of (λ m after h. (refl, h.1)) seen_status status_read status-again
-
-pub status_encode_determined : (κs : Lfts 1) (a : Dens κs status.encode.Kinds.ps) (x y : AtExit (ended_of 1 status.encode.Kinds.ps status.encode.Kinds.r) κs) (r s : WriteAnswer)
-    → status.encode.Reads.Post κs a r x → status.encode.Reads.Post κs a s y → (r ≡ s) × (x.1.0.now ≡ y.1.0.now)
-status_encode_determined κs a x y r s p q = wrote_once p q
-
 -- ---- the severity mask
-abbrev severity_of : ℕ → DtcSeverityMask
-severity_of b = record { bits = b }
-
-abbrev severity_read : Seen DtcSeverityMask → DtcSeverityMaskRead
-severity_read (found v after) = DtcSeverityMaskRead.Accepted v after
-severity_read (stopped e) = DtcSeverityMaskRead.Refused e
-
-severity-again : (r : DtcSeverityMaskRead) → severity_read (seen_severity r) ≡ r
-severity-again (DtcSeverityMaskRead.Accepted v after) = refl
-severity-again (DtcSeverityMaskRead.Refused e) = refl
-
-pub severity_from_bits_determined : Determined 0 severity.from_bits.Kinds.ps severity.from_bits.Kinds.r severity.from_bits.Reads.Post
-severity_from_bits_determined κs a x y r₁ r₂ p q = ap severity_of (p ∙ sym q)
-
-pub severity_union_determined : Determined 0 severity.union.Kinds.ps severity.union.Kinds.r severity.union.Reads.Post
-severity_union_determined κs a x y r₁ r₂ p q = ap severity_of (p ∙ sym q)
-
-pub severity_intersection_determined : Determined 0 severity.intersection.Kinds.ps severity.intersection.Kinds.r severity.intersection.Reads.Post
-severity_intersection_determined κs a x y r₁ r₂ p q = ap severity_of (p ∙ sym q)
-
-pub severity_bits_determined : Determined 0 severity.bits.Kinds.ps severity.bits.Kinds.r severity.bits.Reads.Post
-severity_bits_determined κs a x y r₁ r₂ p q = p ∙ sym q
-
 pub severity_dtc_class_0_determined : Determined 0 severity.dtc_class_0.Kinds.ps severity.dtc_class_0.Kinds.r severity.dtc_class_0.Reads.Post
 severity_dtc_class_0_determined κs a x y r₁ r₂ p q = p ∙ sym q
 
@@ -202,24 +165,15 @@ severity_check_immediately_determined κs a x y r₁ r₂ p q = p ∙ sym q
 pub severity_is_valid_determined : Determined 0 severity.is_valid.Kinds.ps severity.is_valid.Kinds.r severity.is_valid.Reads.Post
 severity_is_valid_determined κs a x y r₁ r₂ p q = p ∙ sym q
 
-pub severity_decode_determined : Determined 1 severity.decode.Kinds.ps severity.decode.Kinds.r severity.decode.Reads.Post
-severity_decode_determined κs a x y = once severity_of (λ m after h. (refl, h.1)) seen_severity severity_read severity-again
-
-pub severity_encode_determined : (κs : Lfts 1) (a : Dens κs severity.encode.Kinds.ps) (x y : AtExit (ended_of 1 severity.encode.Kinds.ps severity.encode.Kinds.r) κs) (r s : WriteAnswer)
-    → severity.encode.Reads.Post κs a r x → severity.encode.Reads.Post κs a s y → (r ≡ s) × (x.1.0.now ≡ y.1.0.now)
-severity_encode_determined κs a x y r s p q = wrote_once p q
-
 -- ---- the functional group
-abbrev group_read : Seen FunctionalGroupIdentifier → FunctionalGroupIdentifierRead
-group_read (found v after) = FunctionalGroupIdentifierRead.Accepted v after
-group_read (stopped e) = FunctionalGroupIdentifierRead.Refused e
-
-group_seen_again : (r : FunctionalGroupIdentifierRead) → group_read (seen_group r) ≡ r
-group_seen_again (FunctionalGroupIdentifierRead.Accepted v after) = refl
-group_seen_again (FunctionalGroupIdentifierRead.Refused e) = refl
-
 pub group_from_byte_determined : Determined 0 group.from_byte.Kinds.ps group.from_byte.Kinds.r group.from_byte.Reads.Post
 group_from_byte_determined κs a x y r₁ r₂ p q = group_once r₁ r₂ (p.0 ∙ sym q.0) (p.1 ∙ sym q.1)
+
+pub group_from_determined : Determined 0 group_of_byte.from.Kinds.ps group_of_byte.from.Kinds.r group_of_byte.from.Reads.Post
+group_from_determined κs a x y r₁ r₂ p q = group_once r₁ r₂ (p.0 ∙ sym q.0) (p.1 ∙ sym q.1)
+
+pub group_into_byte_determined : Determined 0 byte_of_group.from.Kinds.ps byte_of_group.from.Kinds.r byte_of_group.from.Reads.Post
+group_into_byte_determined κs a x y r₁ r₂ p q = p ∙ sym q
 
 pub group_value_determined : Determined 0 group.value.Kinds.ps group.value.Kinds.r group.value.Reads.Post
 group_value_determined κs a x y r₁ r₂ p q = p ∙ sym q
@@ -229,15 +183,20 @@ group_back : (g : FunctionalGroupIdentifier) → group_name g ≡ group_of (grou
 group_back g e = rw (← e) (group_again g)
 
 pub group_decode_determined : Determined 1 group.decode.Kinds.ps group.decode.Kinds.r group.decode.Reads.Post
-group_decode_determined κs a x y = once (λ b. group_at (group_of b) b) (λ g after h. (group_back g h.0, h.1.1)) seen_group group_read group_seen_again
+group_decode_determined κs a x y r₁ r₂ = once (λ b. group_at (group_of b) b) (λ g after h. (group_back g h.0, h.1.1))
 
-pub group_encode_determined : (κs : Lfts 1) (a : Dens κs group.encode.Kinds.ps) (x y : AtExit (ended_of 1 group.encode.Kinds.ps group.encode.Kinds.r) κs) (r s : WriteAnswer)
-    → group.encode.Reads.Post κs a r x → group.encode.Reads.Post κs a s y → (r ≡ s) × (x.1.0.now ≡ y.1.0.now)
-group_encode_determined κs a x y r s p q = wrote_once p q
+pub group_encode_determined : WritesOnce 1 group.encode.Kinds.ps group.encode.Kinds.r (λ κs x. x.1.0) group.encode.Reads.Post
+group_encode_determined κs a x y r₁ r₂ p q = wrote_once p q
 
 -- ---- the format
 pub format_from_byte_determined : Determined 0 format.from_byte.Kinds.ps format.from_byte.Kinds.r format.from_byte.Reads.Post
 format_from_byte_determined κs a x y r₁ r₂ p q = format_once r₁ r₂ (p.0 ∙ sym q.0) (p.1 ∙ sym q.1)
+
+pub format_from_determined : Determined 0 format_of_byte.from.Kinds.ps format_of_byte.from.Kinds.r format_of_byte.from.Reads.Post
+format_from_determined κs a x y r₁ r₂ p q = format_once r₁ r₂ (p.0 ∙ sym q.0) (p.1 ∙ sym q.1)
+
+pub format_into_byte_determined : Determined 0 byte_of_format.from.Kinds.ps byte_of_format.from.Kinds.r byte_of_format.from.Reads.Post
+format_into_byte_determined κs a x y r₁ r₂ p q = p ∙ sym q
 
 pub format_value_determined : Determined 0 format.value.Kinds.ps format.value.Kinds.r format.value.Reads.Post
 format_value_determined κs a x y r₁ r₂ p q = p ∙ sym q
@@ -245,14 +204,6 @@ format_value_determined κs a x y r₁ r₂ p q = p ∙ sym q
 -- ---- the stored-data record number
 abbrev stored_number : ℕ → DtcStoredDataRecordNumber
 stored_number b = record { 0 = b }
-
-abbrev number_read : Seen DtcStoredDataRecordNumber → DtcStoredDataRecordNumberRead
-number_read (found v after) = DtcStoredDataRecordNumberRead.Accepted v after
-number_read (stopped e) = DtcStoredDataRecordNumberRead.Refused e
-
-number-again : (r : DtcStoredDataRecordNumberRead) → number_read (seen_number r) ≡ r
-number-again (DtcStoredDataRecordNumberRead.Accepted v after) = refl
-number-again (DtcStoredDataRecordNumberRead.Refused e) = refl
 
 pub number_new_determined : Determined 0 number.new.Kinds.ps number.new.Kinds.r number.new.Reads.Post
 number_new_determined κs a x y r₁ r₂ p q = ap stored_number (p ∙ sym q)
@@ -264,8 +215,7 @@ pub number_is_reserved_determined : Determined 0 number.is_reserved.Kinds.ps num
 number_is_reserved_determined κs a x y r₁ r₂ p q = p ∙ sym q
 
 pub number_decode_determined : Determined 1 number.decode.Kinds.ps number.decode.Kinds.r number.decode.Reads.Post
-number_decode_determined κs a x y = once stored_number (λ m after h. (refl, h.1)) seen_number number_read number-again
+number_decode_determined κs a x y r₁ r₂ = once stored_number (λ m after h. (refl, h.1))
 
-pub number_encode_determined : (κs : Lfts 1) (a : Dens κs number.encode.Kinds.ps) (x y : AtExit (ended_of 1 number.encode.Kinds.ps number.encode.Kinds.r) κs) (r s : WriteAnswer)
-    → number.encode.Reads.Post κs a r x → number.encode.Reads.Post κs a s y → (r ≡ s) × (x.1.0.now ≡ y.1.0.now)
-number_encode_determined κs a x y r s p q = wrote_once p q
+pub number_encode_determined : WritesOnce 1 number.encode.Kinds.ps number.encode.Kinds.r (λ κs x. x.1.0) number.encode.Reads.Post
+number_encode_determined κs a x y r₁ r₂ p q = wrote_once p q

@@ -1,6 +1,6 @@
 // Trouble-code fields: the code and its number, status and severity masks, the names of formats and groups, the stored-data record number.
 // A field is read at a place of the message and written at the start of the room that is lent for it.
-ghost use Rattle.std.specs.Prelude.{◌≡◌, [], ◌∷◌};
+ghost use Rattle.std.specs.Prelude.{◌≡◌, ◌/◌, ◌%◌, ◌<◌, eqb, [], ◌∷◌, slice_index};
 ghost use Rattle.std.specs.Int.Bits.{bit_and, bit_or};
 ghost use Rattle.paper.specs.Answer.{accepted};
 ghost use Rattle.paper.specs.TroubleCode.{trouble_code, wire_size, all_codes, number_of, from_number, trouble_code_bytes};
@@ -10,58 +10,24 @@ ghost use Rattle.paper.specs.TroubleCode.{test_not_completed_this_operation_cycl
 ghost use Rattle.paper.specs.TroubleCode.{dtc_class, maintenance_only, check_at_next_halt, check_immediately, severity_valid};
 ghost use Rattle.paper.specs.TroubleCode.{group_of, format_of, reserved_record_number};
 ghost use Rattle.wire.specs.Writing.{Wrote};
-ghost use Rattle.wire.specs.Reading.{refusal_in};
-ghost use Rattle.dtc.specs.Status.{code_of, number_said, same_code, seen_record, RecordRight, NextRight};
-ghost use Rattle.dtc.specs.Status.{StatusRight, SeverityRight, RecordNumberRight};
-ghost use Rattle.dtc.specs.Status.{group_byte, group_name, GroupRight, format_byte, format_name};
+ghost use Rattle.dtc.specs.Status.{code_of, number_said, same_code, RecordRight, NextRight};
+ghost use Rattle.dtc.specs.Status.{MaskRight, RecordNumberRight};
+ghost use Rattle.dtc.specs.Status.{group_byte, GroupOf, GroupRight, format_byte, FormatOf};
 
+use std::marker::PhantomData;
 use wire::available::available_at;
-use wire::number::{ByteAnswer, byte_at};
+use wire::number::byte_at;
 use wire::refusal::Refusal;
-use wire::write::{WriteAnswer, put_byte};
+use wire::write::{put_byte, put_bytes};
 
 // ---- The trouble code.
 
 // A trouble code: three bytes, high first.
-#[derive(Clone, Copy)]
+#[derive(Clone, Copy, Debug, PartialEq, Eq)]
 pub struct DtcRecord {
     high_byte: u8,
     middle_byte: u8,
     low_byte: u8,
-}
-
-// The record of a number, or the refusal.
-#[derive(Clone, Copy)]
-pub enum DtcRecordAnswer {
-    Accepted(DtcRecord),
-    Refused(Refusal),
-}
-
-// A record and where the next field begins, or the refusal.
-#[derive(Clone, Copy)]
-pub enum DtcRecordRead {
-    Accepted(DtcRecord, usize),
-    Refused(Refusal),
-}
-
-impl DtcRecordRead {
-    // The refusal; of a record that was accepted there is none, and WrongFormat stands in.
-    fn refusal(self) -> Refusal
-        ensures { result ≡ refusal_in (seen_record self) }
-    {
-        match self {
-            DtcRecordRead::Refused(e) => e,
-            DtcRecordRead::Accepted(_, _) => Refusal::WrongFormat { good: 0 },
-        }
-    }
-}
-
-// The next of a list of records: nothing where the message has ended.
-#[derive(Clone, Copy)]
-pub enum DtcRecordNext {
-    Nothing,
-    Record(DtcRecord, usize),
-    Refused(Refusal),
 }
 
 impl DtcRecord {
@@ -77,10 +43,10 @@ impl DtcRecord {
 
     // What the paper says of the two, each asked by its name. Nobody calls this: its promise is the table.
     fn constants()
-        ensures value { DtcRecord.WIRE_SIZE ≡ wire_size }
-        ensures value_2 { DtcRecord.CLEAR_ALL_DTCS.high_byte ≡ all_codes.high }
-        ensures value_3 { DtcRecord.CLEAR_ALL_DTCS.middle_byte ≡ all_codes.middle }
-        ensures value_4 { DtcRecord.CLEAR_ALL_DTCS.low_byte ≡ all_codes.low }
+        ensures size { DtcRecord.WIRE_SIZE ≡ wire_size }
+        ensures high { DtcRecord.CLEAR_ALL_DTCS.high_byte ≡ all_codes.high }
+        ensures middle { DtcRecord.CLEAR_ALL_DTCS.middle_byte ≡ all_codes.middle }
+        ensures low { DtcRecord.CLEAR_ALL_DTCS.low_byte ≡ all_codes.low }
     {}
 
     pub fn new(high_byte: u8, middle_byte: u8, low_byte: u8) -> DtcRecord
@@ -111,139 +77,109 @@ impl DtcRecord {
         self.low_byte
     }
 
-    // Whether two records are the same code.
+    // Whether two records are the same code, as `==` has it.
     pub fn equals(self, other: DtcRecord) -> bool
         ensures { result ≡ same_code (code_of self) (code_of other) }
     {
-        if self.high_byte != other.high_byte {
-            return false;
-        }
-        if self.middle_byte != other.middle_byte {
-            return false;
-        }
-        self.low_byte == other.low_byte
+        self == other
     }
 
-    // The record of a number; above 0x00FFFFFF it is refusal 5 with the number.
-    pub fn from_u32(value: u32) -> DtcRecordAnswer
+    // The two conversions by name, here and below: docs/DIFFERENCES.md names them beside the original's.
+    pub fn from_u32(value: u32) -> Result<DtcRecord, Refusal>
         ensures { number_said result ≡ from_number value }
     {
-        if 0x00FF_FFFF < value {
-            return DtcRecordAnswer::Refused(Refusal::NoTroubleCode(value));
-        }
-        DtcRecordAnswer::Accepted(DtcRecord {
-            high_byte: (value / 65536) as u8,
-            middle_byte: (value / 256 % 256) as u8,
-            low_byte: (value % 256) as u8,
-        })
+        DtcRecord::try_from(value)
     }
 
-    // 65,536 times the high byte, 256 times the middle byte and the low byte, added up.
     pub fn to_u32(self) -> u32
         ensures { result ≡ number_of (code_of self) }
     {
-        (self.high_byte as u32) * 65536 + (self.middle_byte as u32) * 256 + (self.low_byte as u32)
+        u32::from(self)
     }
 
-    // Fewer than three bytes from `at` on are refusal 1.
-    pub fn decode(s: &[u8], at: usize) -> DtcRecordRead
+    // The record and where the next field begins. Fewer than three bytes from `at` on are refusal 1.
+    pub fn decode(s: &[u8], at: usize) -> Result<(DtcRecord, usize), Refusal>
         ensures { RecordRight s.now at result }
     {
+        let needed = DtcRecord::WIRE_SIZE;
         let available = available_at(s, at);
-        if available < DtcRecord::WIRE_SIZE {
-            return DtcRecordRead::Refused(Refusal::TooShort {
-                needed: DtcRecord::WIRE_SIZE,
-                available,
-            });
+        if available < needed {
+            return Err(Refusal::TooShort { needed, available });
         }
-        DtcRecordRead::Accepted(
-            DtcRecord {
-                high_byte: s[at],
-                middle_byte: s[at + 1],
-                low_byte: s[at + 2],
-            },
-            at + DtcRecord::WIRE_SIZE,
-        )
+        Ok((DtcRecord::new(s[at], s[at + 1], s[at + 2]), at + needed))
     }
 
-    // Nothing where the message has ended at `at`; else as `decode` has it.
-    pub fn decode_next(s: &[u8], at: usize) -> DtcRecordNext
+    // The next of a list of records: nothing where the message has ended at `at`, else as `decode` has it.
+    pub fn decode_next(s: &[u8], at: usize) -> Result<Option<(DtcRecord, usize)>, Refusal>
         ensures { NextRight s.now at result }
     {
         if s.len() <= at {
-            return DtcRecordNext::Nothing;
+            return Ok(None);
         }
-        let c = DtcRecord::decode(s, at);
-        let DtcRecordRead::Accepted(code, next) = c else {
-            return DtcRecordNext::Refused(c.refusal());
-        };
-        DtcRecordNext::Record(code, next)
+        let (code, next) = DtcRecord::decode(s, at)?;
+        Ok(Some((code, next)))
     }
 
-    pub fn encode(self, out: &mut [u8]) -> WriteAnswer
+    pub fn encode(self, out: &mut [u8]) -> Result<usize, Refusal>
         ensures { Wrote (accepted (trouble_code_bytes (code_of self))) out.old result out.new }
     {
-        let needed = DtcRecord::WIRE_SIZE;
-        let room = out.len();
-        if room < needed {
-            return WriteAnswer::Refused(Refusal::NoRoom { needed, room });
-        }
-        out[0] = self.high_byte;
-        out[1] = self.middle_byte;
-        out[2] = self.low_byte;
-        WriteAnswer::Accepted(needed)
+        put_bytes(&[self.high_byte, self.middle_byte, self.low_byte], out)
     }
 }
 
-// ---- The status mask.
+// The record of a number; above 0x00FFFFFF it is refusal 5 with the number.
+impl TryFrom<u32> for DtcRecord {
+    type Error = Refusal;
 
-// The status of a code, or a mask of statuses to look for: a byte with a name for each bit.
-#[derive(Clone, Copy)]
-pub struct DtcStatusMask {
+    ghost try_from_gives = { λ n r. number_said r ≡ from_number n };
+
+    #[tactic(auto, unfolding(paper::specs::TroubleCode::from_number))]
+    fn try_from(value: u32) -> Result<DtcRecord, Refusal> {
+        let [above, high_byte, middle_byte, low_byte] = value.to_be_bytes();
+        if above != 0 {
+            return Err(Refusal::NoTroubleCode(value));
+        }
+        Ok(DtcRecord::new(high_byte, middle_byte, low_byte))
+    }
+}
+
+// 65,536 times the high byte, 256 times the middle byte and the low byte, added up.
+impl From<DtcRecord> for u32 {
+    ghost from_gives = { λ c n. n ≡ number_of (code_of c) };
+
+    fn from(code: DtcRecord) -> u32 {
+        u32::from_be_bytes([0, code.high_byte, code.middle_byte, code.low_byte])
+    }
+}
+
+// ---- Masks.
+
+// A byte with a name for each bit. What the names are is `Names`, so that one sort of mask isn't taken for another.
+#[derive(Clone, Copy, Debug, PartialEq, Eq)]
+pub struct Mask<Names> {
     bits: u8,
+    names: PhantomData<Names>,
 }
 
-// The mask and where the next field begins, or the refusal.
-#[derive(Clone, Copy)]
-pub enum DtcStatusMaskRead {
-    Accepted(DtcStatusMask, usize),
-    Refused(Refusal),
+// A mask as the value of a constant, where no function can be called.
+macro_rules! mask {
+    ($bits:literal) => {
+        Mask {
+            bits: $bits,
+            names: PhantomData,
+        }
+    };
 }
 
-impl DtcStatusMask {
-    pub const TestFailed: DtcStatusMask = DtcStatusMask { bits: 0x01 };
-
-    pub const TestFailedThisOperationCycle: DtcStatusMask = DtcStatusMask { bits: 0x02 };
-
-    pub const PendingDtc: DtcStatusMask = DtcStatusMask { bits: 0x04 };
-
-    pub const ConfirmedDtc: DtcStatusMask = DtcStatusMask { bits: 0x08 };
-
-    pub const TestNotCompletedSinceLastClear: DtcStatusMask = DtcStatusMask { bits: 0x10 };
-
-    pub const TestFailedSinceLastClear: DtcStatusMask = DtcStatusMask { bits: 0x20 };
-
-    pub const TestNotCompletedThisOperationCycle: DtcStatusMask = DtcStatusMask { bits: 0x40 };
-
-    pub const WarningIndicatorRequested: DtcStatusMask = DtcStatusMask { bits: 0x80 };
-
-    // Each is the mask of the question that it is named after. Nobody calls this: its promise is the table.
-    fn constants()
-        ensures value { DtcStatusMask.TestFailed.bits ≡ mask_of test_failed }
-        ensures value_2 { DtcStatusMask.TestFailedThisOperationCycle.bits ≡ mask_of test_failed_this_operation_cycle }
-        ensures value_3 { DtcStatusMask.PendingDtc.bits ≡ mask_of pending_dtc }
-        ensures value_4 { DtcStatusMask.ConfirmedDtc.bits ≡ mask_of confirmed_dtc }
-        ensures value_5 { DtcStatusMask.TestNotCompletedSinceLastClear.bits ≡ mask_of test_not_completed_since_last_clear }
-        ensures value_6 { DtcStatusMask.TestFailedSinceLastClear.bits ≡ mask_of test_failed_since_last_clear }
-        ensures value_7 { DtcStatusMask.TestNotCompletedThisOperationCycle.bits ≡ mask_of test_not_completed_this_operation_cycle }
-        ensures value_8 { DtcStatusMask.WarningIndicatorRequested.bits ≡ mask_of warning_indicator_requested }
-    {}
-
+impl<Names> Mask<Names> {
     // Every byte is a mask.
-    pub fn from_bits(bits: u8) -> DtcStatusMask
+    pub fn from_bits(bits: u8) -> Mask<Names>
         ensures { result.bits ≡ bits }
     {
-        DtcStatusMask { bits }
+        Mask {
+            bits,
+            names: PhantomData,
+        }
     }
 
     pub fn bits(self) -> u8
@@ -252,65 +188,144 @@ impl DtcStatusMask {
         self.bits
     }
 
+    // Whether the one bit of `named` is set.
+    fn has(self, named: Mask<Names>) -> bool
+        requires { 0 < named.bits }
+        ensures { result ≡ eqb (self.bits / named.bits % 2) 1 }
+    {
+        self.bits / named.bits % 2 == 1
+    }
+
+    // The bits of either mask.
+    pub fn union(self, other: Mask<Names>) -> Mask<Names>
+        ensures { result.bits ≡ bit_or self.bits other.bits }
+    {
+        Mask::from_bits(self.bits | other.bits)
+    }
+
+    // The bits that both masks have.
+    pub fn intersection(self, other: Mask<Names>) -> Mask<Names>
+        ensures { result.bits ≡ bit_and self.bits other.bits }
+    {
+        Mask::from_bits(self.bits & other.bits)
+    }
+
+    // The mask and where the next field begins. An empty rest is refusal 1.
+    pub fn decode(s: &[u8], at: usize) -> Result<(Mask<Names>, usize), Refusal>
+        ensures { MaskRight s.now at result }
+    {
+        let (bits, next) = byte_at(s, at)?;
+        Ok((Mask::from_bits(bits), next))
+    }
+
+    pub fn encode(self, out: &mut [u8]) -> Result<usize, Refusal>
+        ensures { Wrote (accepted (self.bits ∷ [])) out.old result out.new }
+    {
+        put_byte(self.bits, out)
+    }
+}
+
+// ---- The status mask.
+
+// The names of a status.
+#[derive(Clone, Copy, Debug, PartialEq, Eq)]
+pub struct Status;
+
+// The status of a code, or a mask of statuses to look for.
+pub type DtcStatusMask = Mask<Status>;
+
+impl Mask<Status> {
+    pub const TestFailed: DtcStatusMask = mask!(0x01);
+
+    pub const TestFailedThisOperationCycle: DtcStatusMask = mask!(0x02);
+
+    pub const PendingDtc: DtcStatusMask = mask!(0x04);
+
+    pub const ConfirmedDtc: DtcStatusMask = mask!(0x08);
+
+    pub const TestNotCompletedSinceLastClear: DtcStatusMask = mask!(0x10);
+
+    pub const TestFailedSinceLastClear: DtcStatusMask = mask!(0x20);
+
+    pub const TestNotCompletedThisOperationCycle: DtcStatusMask = mask!(0x40);
+
+    pub const WarningIndicatorRequested: DtcStatusMask = mask!(0x80);
+
+    // The bits of the eight, each the mask of the question that it is named after. Nobody calls this: its promise is the table.
+    fn constants() -> [u8; 8]
+        ensures test_failed { slice_index result 0 ≡ mask_of test_failed }
+        ensures test_failed_this_operation_cycle { slice_index result 1 ≡ mask_of test_failed_this_operation_cycle }
+        ensures pending_dtc { slice_index result 2 ≡ mask_of pending_dtc }
+        ensures confirmed_dtc { slice_index result 3 ≡ mask_of confirmed_dtc }
+        ensures test_not_completed_since_last_clear { slice_index result 4 ≡ mask_of test_not_completed_since_last_clear }
+        ensures test_failed_since_last_clear { slice_index result 5 ≡ mask_of test_failed_since_last_clear }
+        ensures test_not_completed_this_operation_cycle { slice_index result 6 ≡ mask_of test_not_completed_this_operation_cycle }
+        ensures warning_indicator_requested { slice_index result 7 ≡ mask_of warning_indicator_requested }
+    {
+        [
+            DtcStatusMask::TestFailed.bits,
+            DtcStatusMask::TestFailedThisOperationCycle.bits,
+            DtcStatusMask::PendingDtc.bits,
+            DtcStatusMask::ConfirmedDtc.bits,
+            DtcStatusMask::TestNotCompletedSinceLastClear.bits,
+            DtcStatusMask::TestFailedSinceLastClear.bits,
+            DtcStatusMask::TestNotCompletedThisOperationCycle.bits,
+            DtcStatusMask::WarningIndicatorRequested.bits,
+        ]
+    }
+
+    // A question for each bit, by the name that the paper and the original have for it, here and of a severity: the test itself is `has`.
     // The last test failed.
     pub fn test_failed(self) -> bool
         ensures { result ≡ test_failed self.bits }
     {
-        let named = DtcStatusMask::TestFailed;
-        self.bits / named.bits % 2 == 1
+        self.has(DtcStatusMask::TestFailed)
     }
 
     pub fn test_failed_this_operation_cycle(self) -> bool
         ensures { result ≡ test_failed_this_operation_cycle self.bits }
     {
-        let named = DtcStatusMask::TestFailedThisOperationCycle;
-        self.bits / named.bits % 2 == 1
+        self.has(DtcStatusMask::TestFailedThisOperationCycle)
     }
 
     // A test failed, and no cycle without failure has been completed since.
     pub fn pending_dtc(self) -> bool
         ensures { result ≡ pending_dtc self.bits }
     {
-        let named = DtcStatusMask::PendingDtc;
-        self.bits / named.bits % 2 == 1
+        self.has(DtcStatusMask::PendingDtc)
     }
 
     // The fault was seen often enough to be stored.
     pub fn confirmed_dtc(self) -> bool
         ensures { result ≡ confirmed_dtc self.bits }
     {
-        let named = DtcStatusMask::ConfirmedDtc;
-        self.bits / named.bits % 2 == 1
+        self.has(DtcStatusMask::ConfirmedDtc)
     }
 
     // No test has been completed since the codes were cleared.
     pub fn test_not_completed_since_last_clear(self) -> bool
         ensures { result ≡ test_not_completed_since_last_clear self.bits }
     {
-        let named = DtcStatusMask::TestNotCompletedSinceLastClear;
-        self.bits / named.bits % 2 == 1
+        self.has(DtcStatusMask::TestNotCompletedSinceLastClear)
     }
 
     // A test failed since the codes were cleared.
     pub fn test_failed_since_last_clear(self) -> bool
         ensures { result ≡ test_failed_since_last_clear self.bits }
     {
-        let named = DtcStatusMask::TestFailedSinceLastClear;
-        self.bits / named.bits % 2 == 1
+        self.has(DtcStatusMask::TestFailedSinceLastClear)
     }
 
     pub fn test_not_completed_this_operation_cycle(self) -> bool
         ensures { result ≡ test_not_completed_this_operation_cycle self.bits }
     {
-        let named = DtcStatusMask::TestNotCompletedThisOperationCycle;
-        self.bits / named.bits % 2 == 1
+        self.has(DtcStatusMask::TestNotCompletedThisOperationCycle)
     }
 
     pub fn warning_indicator_requested(self) -> bool
         ensures { result ≡ warning_indicator_requested self.bits }
     {
-        let named = DtcStatusMask::WarningIndicatorRequested;
-        self.bits / named.bits % 2 == 1
+        self.has(DtcStatusMask::WarningIndicatorRequested)
     }
 
     // Whether a status matches this mask: some bit is set in both.
@@ -319,155 +334,104 @@ impl DtcStatusMask {
     {
         self.bits & status.bits != 0
     }
-
-    // The bits of either mask.
-    pub fn union(self, other: DtcStatusMask) -> DtcStatusMask
-        ensures { result.bits ≡ bit_or self.bits other.bits }
-    {
-        DtcStatusMask {
-            bits: self.bits | other.bits,
-        }
-    }
-
-    // The bits that both masks have.
-    pub fn intersection(self, other: DtcStatusMask) -> DtcStatusMask
-        ensures { result.bits ≡ bit_and self.bits other.bits }
-    {
-        DtcStatusMask {
-            bits: self.bits & other.bits,
-        }
-    }
-
-    // An empty rest is refusal 1.
-    pub fn decode(s: &[u8], at: usize) -> DtcStatusMaskRead
-        ensures { StatusRight s.now at result }
-    {
-        let b = byte_at(s, at);
-        let ByteAnswer::Accepted(bits, next) = b else {
-            return DtcStatusMaskRead::Refused(b.refusal());
-        };
-        DtcStatusMaskRead::Accepted(DtcStatusMask { bits }, next)
-    }
-
-    pub fn encode(self, out: &mut [u8]) -> WriteAnswer
-        ensures { Wrote (accepted (self.bits ∷ [])) out.old result out.new }
-    {
-        put_byte(self.bits, out)
-    }
 }
 
 // ---- The severity mask.
 
+// The names of a severity.
+#[derive(Clone, Copy, Debug, PartialEq, Eq)]
+pub struct Severity;
+
 // How grave a code is: a class in bits 0 to 4 and what to do in bits 5 to 7.
-#[derive(Clone, Copy)]
-pub struct DtcSeverityMask {
-    bits: u8,
-}
+pub type DtcSeverityMask = Mask<Severity>;
 
-// The mask and where the next field begins, or the refusal.
-#[derive(Clone, Copy)]
-pub enum DtcSeverityMaskRead {
-    Accepted(DtcSeverityMask, usize),
-    Refused(Refusal),
-}
+impl Mask<Severity> {
+    pub const DtcClass0: DtcSeverityMask = mask!(0x01);
 
-impl DtcSeverityMask {
-    pub const DtcClass0: DtcSeverityMask = DtcSeverityMask { bits: 0x01 };
+    pub const DtcClass1: DtcSeverityMask = mask!(0x02);
 
-    pub const DtcClass1: DtcSeverityMask = DtcSeverityMask { bits: 0x02 };
+    pub const DtcClass2: DtcSeverityMask = mask!(0x04);
 
-    pub const DtcClass2: DtcSeverityMask = DtcSeverityMask { bits: 0x04 };
+    pub const DtcClass3: DtcSeverityMask = mask!(0x08);
 
-    pub const DtcClass3: DtcSeverityMask = DtcSeverityMask { bits: 0x08 };
+    pub const DtcClass4: DtcSeverityMask = mask!(0x10);
 
-    pub const DtcClass4: DtcSeverityMask = DtcSeverityMask { bits: 0x10 };
+    pub const MaintenanceOnly: DtcSeverityMask = mask!(0x20);
 
-    pub const MaintenanceOnly: DtcSeverityMask = DtcSeverityMask { bits: 0x20 };
+    pub const CheckAtNextHalt: DtcSeverityMask = mask!(0x40);
 
-    pub const CheckAtNextHalt: DtcSeverityMask = DtcSeverityMask { bits: 0x40 };
+    pub const CheckImmediately: DtcSeverityMask = mask!(0x80);
 
-    pub const CheckImmediately: DtcSeverityMask = DtcSeverityMask { bits: 0x80 };
-
-    // Each is the mask of the question that it is named after. Nobody calls this: its promise is the table.
-    fn constants()
-        ensures value { DtcSeverityMask.DtcClass0.bits ≡ mask_of (dtc_class 0) }
-        ensures value_2 { DtcSeverityMask.DtcClass1.bits ≡ mask_of (dtc_class 1) }
-        ensures value_3 { DtcSeverityMask.DtcClass2.bits ≡ mask_of (dtc_class 2) }
-        ensures value_4 { DtcSeverityMask.DtcClass3.bits ≡ mask_of (dtc_class 3) }
-        ensures value_5 { DtcSeverityMask.DtcClass4.bits ≡ mask_of (dtc_class 4) }
-        ensures value_6 { DtcSeverityMask.MaintenanceOnly.bits ≡ mask_of maintenance_only }
-        ensures value_7 { DtcSeverityMask.CheckAtNextHalt.bits ≡ mask_of check_at_next_halt }
-        ensures value_8 { DtcSeverityMask.CheckImmediately.bits ≡ mask_of check_immediately }
-    {}
-
-    // Every byte is a mask.
-    pub fn from_bits(bits: u8) -> DtcSeverityMask
-        ensures { result.bits ≡ bits }
+    // The bits of the eight, each the mask of the question that it is named after. Nobody calls this: its promise is the table.
+    fn constants() -> [u8; 8]
+        ensures dtc_class_0 { slice_index result 0 ≡ mask_of (dtc_class 0) }
+        ensures dtc_class_1 { slice_index result 1 ≡ mask_of (dtc_class 1) }
+        ensures dtc_class_2 { slice_index result 2 ≡ mask_of (dtc_class 2) }
+        ensures dtc_class_3 { slice_index result 3 ≡ mask_of (dtc_class 3) }
+        ensures dtc_class_4 { slice_index result 4 ≡ mask_of (dtc_class 4) }
+        ensures maintenance_only { slice_index result 5 ≡ mask_of maintenance_only }
+        ensures check_at_next_halt { slice_index result 6 ≡ mask_of check_at_next_halt }
+        ensures check_immediately { slice_index result 7 ≡ mask_of check_immediately }
     {
-        DtcSeverityMask { bits }
-    }
-
-    pub fn bits(self) -> u8
-        ensures { result ≡ self.bits }
-    {
-        self.bits
+        [
+            DtcSeverityMask::DtcClass0.bits,
+            DtcSeverityMask::DtcClass1.bits,
+            DtcSeverityMask::DtcClass2.bits,
+            DtcSeverityMask::DtcClass3.bits,
+            DtcSeverityMask::DtcClass4.bits,
+            DtcSeverityMask::MaintenanceOnly.bits,
+            DtcSeverityMask::CheckAtNextHalt.bits,
+            DtcSeverityMask::CheckImmediately.bits,
+        ]
     }
 
     pub fn dtc_class_0(self) -> bool
         ensures { result ≡ dtc_class 0 self.bits }
     {
-        let named = DtcSeverityMask::DtcClass0;
-        self.bits / named.bits % 2 == 1
+        self.has(DtcSeverityMask::DtcClass0)
     }
 
     pub fn dtc_class_1(self) -> bool
         ensures { result ≡ dtc_class 1 self.bits }
     {
-        let named = DtcSeverityMask::DtcClass1;
-        self.bits / named.bits % 2 == 1
+        self.has(DtcSeverityMask::DtcClass1)
     }
 
     pub fn dtc_class_2(self) -> bool
         ensures { result ≡ dtc_class 2 self.bits }
     {
-        let named = DtcSeverityMask::DtcClass2;
-        self.bits / named.bits % 2 == 1
+        self.has(DtcSeverityMask::DtcClass2)
     }
 
     pub fn dtc_class_3(self) -> bool
         ensures { result ≡ dtc_class 3 self.bits }
     {
-        let named = DtcSeverityMask::DtcClass3;
-        self.bits / named.bits % 2 == 1
+        self.has(DtcSeverityMask::DtcClass3)
     }
 
     pub fn dtc_class_4(self) -> bool
         ensures { result ≡ dtc_class 4 self.bits }
     {
-        let named = DtcSeverityMask::DtcClass4;
-        self.bits / named.bits % 2 == 1
+        self.has(DtcSeverityMask::DtcClass4)
     }
 
     // Maintenance is enough.
     pub fn maintenance_only(self) -> bool
         ensures { result ≡ maintenance_only self.bits }
     {
-        let named = DtcSeverityMask::MaintenanceOnly;
-        self.bits / named.bits % 2 == 1
+        self.has(DtcSeverityMask::MaintenanceOnly)
     }
 
     pub fn check_at_next_halt(self) -> bool
         ensures { result ≡ check_at_next_halt self.bits }
     {
-        let named = DtcSeverityMask::CheckAtNextHalt;
-        self.bits / named.bits % 2 == 1
+        self.has(DtcSeverityMask::CheckAtNextHalt)
     }
 
     pub fn check_immediately(self) -> bool
         ensures { result ≡ check_immediately self.bits }
     {
-        let named = DtcSeverityMask::CheckImmediately;
-        self.bits / named.bits % 2 == 1
+        self.has(DtcSeverityMask::CheckImmediately)
     }
 
     // Valid when it names at least one class.
@@ -476,55 +440,20 @@ impl DtcSeverityMask {
     {
         self.bits % 32 != 0
     }
-
-    // The bits of either mask.
-    pub fn union(self, other: DtcSeverityMask) -> DtcSeverityMask
-        ensures { result.bits ≡ bit_or self.bits other.bits }
-    {
-        DtcSeverityMask {
-            bits: self.bits | other.bits,
-        }
-    }
-
-    // The bits that both masks have.
-    pub fn intersection(self, other: DtcSeverityMask) -> DtcSeverityMask
-        ensures { result.bits ≡ bit_and self.bits other.bits }
-    {
-        DtcSeverityMask {
-            bits: self.bits & other.bits,
-        }
-    }
-
-    // An empty rest is refusal 1.
-    pub fn decode(s: &[u8], at: usize) -> DtcSeverityMaskRead
-        ensures { SeverityRight s.now at result }
-    {
-        let b = byte_at(s, at);
-        let ByteAnswer::Accepted(bits, next) = b else {
-            return DtcSeverityMaskRead::Refused(b.refusal());
-        };
-        DtcSeverityMaskRead::Accepted(DtcSeverityMask { bits }, next)
-    }
-
-    pub fn encode(self, out: &mut [u8]) -> WriteAnswer
-        ensures { Wrote (accepted (self.bits ∷ [])) out.old result out.new }
-    {
-        put_byte(self.bits, out)
-    }
 }
 
 // ---- The functional group.
 
-// A code from 0xD1 to 0xDF, which only the reader of a byte makes.
-#[derive(Clone, Copy)]
+// A code from 0xD1 to 0xDF, which only `from` makes of a byte.
+#[derive(Clone, Copy, Debug, PartialEq, Eq)]
 pub struct LegislativeCode(u8);
 
-// A code that no group has, which only the reader of a byte makes.
-#[derive(Clone, Copy)]
+// A code that no group has, which only `from` makes of a byte.
+#[derive(Clone, Copy, Debug, PartialEq, Eq)]
 pub struct ReservedGroupCode(u8);
 
 // Which part of the vehicle a code belongs to. Each byte is one of these, and each code is held once.
-#[derive(Clone, Copy)]
+#[derive(Clone, Copy, Debug, PartialEq, Eq)]
 pub enum FunctionalGroupIdentifier {
     EmissionsSystemGroup,
     SafetySystemGroup,
@@ -533,40 +462,26 @@ pub enum FunctionalGroupIdentifier {
     IsoSaeReserved(ReservedGroupCode),
 }
 
-// The group and where the next field begins, or the refusal.
-#[derive(Clone, Copy)]
-pub enum FunctionalGroupIdentifierRead {
-    Accepted(FunctionalGroupIdentifier, usize),
-    Refused(Refusal),
+impl From<u8> for FunctionalGroupIdentifier {
+    ghost from_gives = { GroupOf };
+
+    fn from(b: u8) -> FunctionalGroupIdentifier {
+        match b {
+            0x33 => FunctionalGroupIdentifier::EmissionsSystemGroup,
+            0xD0 => FunctionalGroupIdentifier::SafetySystemGroup,
+            0xD1..=0xDF => FunctionalGroupIdentifier::LegislativeSystemGroup(LegislativeCode(b)),
+            0xFE => FunctionalGroupIdentifier::VobdSystem,
+            _ => FunctionalGroupIdentifier::IsoSaeReserved(ReservedGroupCode(b)),
+        }
+    }
 }
 
-impl FunctionalGroupIdentifier {
-    pub fn from_byte(b: u8) -> FunctionalGroupIdentifier
-        ensures { (group_byte result ≡ b) × (group_name result ≡ group_of b) }
-    {
-        if b == 0x33 {
-            return FunctionalGroupIdentifier::EmissionsSystemGroup;
-        }
-        if b == 0xD0 {
-            return FunctionalGroupIdentifier::SafetySystemGroup;
-        }
-        if b == 0xFE {
-            return FunctionalGroupIdentifier::VobdSystem;
-        }
-        if b < 0xD1 {
-            return FunctionalGroupIdentifier::IsoSaeReserved(ReservedGroupCode(b));
-        }
-        if 0xDF < b {
-            return FunctionalGroupIdentifier::IsoSaeReserved(ReservedGroupCode(b));
-        }
-        FunctionalGroupIdentifier::LegislativeSystemGroup(LegislativeCode(b))
-    }
+// The byte of the group.
+impl From<FunctionalGroupIdentifier> for u8 {
+    ghost from_gives = { λ g b. b ≡ group_byte g };
 
-    // The byte of the group.
-    pub fn value(self) -> u8
-        ensures { result ≡ group_byte self }
-    {
-        match self {
+    fn from(group: FunctionalGroupIdentifier) -> u8 {
+        match group {
             FunctionalGroupIdentifier::EmissionsSystemGroup => 0x33,
             FunctionalGroupIdentifier::SafetySystemGroup => 0xD0,
             FunctionalGroupIdentifier::LegislativeSystemGroup(c) => c.0,
@@ -574,33 +489,45 @@ impl FunctionalGroupIdentifier {
             FunctionalGroupIdentifier::IsoSaeReserved(c) => c.0,
         }
     }
+}
 
-    // An empty rest is refusal 1.
-    pub fn decode(s: &[u8], at: usize) -> FunctionalGroupIdentifierRead
-        ensures { GroupRight s.now at result }
+impl FunctionalGroupIdentifier {
+    pub fn from_byte(b: u8) -> FunctionalGroupIdentifier
+        ensures { GroupOf b result }
     {
-        let b = byte_at(s, at);
-        let ByteAnswer::Accepted(code, next) = b else {
-            return FunctionalGroupIdentifierRead::Refused(b.refusal());
-        };
-        FunctionalGroupIdentifierRead::Accepted(FunctionalGroupIdentifier::from_byte(code), next)
+        FunctionalGroupIdentifier::from(b)
     }
 
-    pub fn encode(self, out: &mut [u8]) -> WriteAnswer
+    pub fn value(self) -> u8
+        ensures { result ≡ group_byte self }
+    {
+        u8::from(self)
+    }
+
+    // The group and where the next field begins. An empty rest is refusal 1.
+    // Two lines for each sort of field of one byte: a trait that has them once would be longer, and whoever reads a field would import it.
+    pub fn decode(s: &[u8], at: usize) -> Result<(FunctionalGroupIdentifier, usize), Refusal>
+        ensures { GroupRight s.now at result }
+    {
+        let (b, next) = byte_at(s, at)?;
+        Ok((FunctionalGroupIdentifier::from(b), next))
+    }
+
+    pub fn encode(self, out: &mut [u8]) -> Result<usize, Refusal>
         ensures { Wrote (accepted (group_byte self ∷ [])) out.old result out.new }
     {
-        put_byte(self.value(), out)
+        put_byte(u8::from(self), out)
     }
 }
 
 // ---- The format.
 
-// A code that no format has, which only the reader of a byte makes.
-#[derive(Clone, Copy)]
+// A code that no format has, which only `from` makes of a byte.
+#[derive(Clone, Copy, Debug, PartialEq, Eq)]
 pub struct ReservedFormatCode(u8);
 
 // Which document's codes these are. Each byte is one of these, and each code is held once.
-#[derive(Clone, Copy)]
+#[derive(Clone, Copy, Debug, PartialEq, Eq)]
 pub enum DtcFormatIdentifier {
     SaeJ2012DaDtcFormat00,
     Iso14229_1DtcFormat,
@@ -610,10 +537,10 @@ pub enum DtcFormatIdentifier {
     IsoSaeReserved(ReservedFormatCode),
 }
 
-impl DtcFormatIdentifier {
-    pub fn from_byte(b: u8) -> DtcFormatIdentifier
-        ensures { (format_byte result ≡ b) × (format_name result ≡ format_of b) }
-    {
+impl From<u8> for DtcFormatIdentifier {
+    ghost from_gives = { FormatOf };
+
+    fn from(b: u8) -> DtcFormatIdentifier {
         match b {
             0x00 => DtcFormatIdentifier::SaeJ2012DaDtcFormat00,
             0x01 => DtcFormatIdentifier::Iso14229_1DtcFormat,
@@ -623,12 +550,14 @@ impl DtcFormatIdentifier {
             _ => DtcFormatIdentifier::IsoSaeReserved(ReservedFormatCode(b)),
         }
     }
+}
 
-    // The byte of the format.
-    pub fn value(self) -> u8
-        ensures { result ≡ format_byte self }
-    {
-        match self {
+// The byte of the format.
+impl From<DtcFormatIdentifier> for u8 {
+    ghost from_gives = { λ f b. b ≡ format_byte f };
+
+    fn from(format: DtcFormatIdentifier) -> u8 {
+        match format {
             DtcFormatIdentifier::SaeJ2012DaDtcFormat00 => 0x00,
             DtcFormatIdentifier::Iso14229_1DtcFormat => 0x01,
             DtcFormatIdentifier::SaeJ1939_73DtcFormat => 0x02,
@@ -639,18 +568,25 @@ impl DtcFormatIdentifier {
     }
 }
 
+impl DtcFormatIdentifier {
+    pub fn from_byte(b: u8) -> DtcFormatIdentifier
+        ensures { FormatOf b result }
+    {
+        DtcFormatIdentifier::from(b)
+    }
+
+    pub fn value(self) -> u8
+        ensures { result ≡ format_byte self }
+    {
+        u8::from(self)
+    }
+}
+
 // ---- The stored-data record number.
 
 // The number of a stored data record: a byte of a type of its own, so that a status byte cannot be passed for it.
-#[derive(Clone, Copy)]
+#[derive(Clone, Copy, Debug, PartialEq, Eq)]
 pub struct DtcStoredDataRecordNumber(u8);
-
-// The number and where the next field begins, or the refusal.
-#[derive(Clone, Copy)]
-pub enum DtcStoredDataRecordNumberRead {
-    Accepted(DtcStoredDataRecordNumber, usize),
-    Refused(Refusal),
-}
 
 impl DtcStoredDataRecordNumber {
     pub fn new(record_number: u8) -> DtcStoredDataRecordNumber
@@ -672,18 +608,15 @@ impl DtcStoredDataRecordNumber {
         self.0 == 0
     }
 
-    // An empty rest is refusal 1.
-    pub fn decode(s: &[u8], at: usize) -> DtcStoredDataRecordNumberRead
+    // The number and where the next field begins. An empty rest is refusal 1.
+    pub fn decode(s: &[u8], at: usize) -> Result<(DtcStoredDataRecordNumber, usize), Refusal>
         ensures { RecordNumberRight s.now at result }
     {
-        let b = byte_at(s, at);
-        let ByteAnswer::Accepted(number, next) = b else {
-            return DtcStoredDataRecordNumberRead::Refused(b.refusal());
-        };
-        DtcStoredDataRecordNumberRead::Accepted(DtcStoredDataRecordNumber(number), next)
+        let (number, next) = byte_at(s, at)?;
+        Ok((DtcStoredDataRecordNumber(number), next))
     }
 
-    pub fn encode(self, out: &mut [u8]) -> WriteAnswer
+    pub fn encode(self, out: &mut [u8]) -> Result<usize, Refusal>
         ensures { Wrote (accepted (self.0 ∷ [])) out.old result out.new }
     {
         put_byte(self.0, out)
