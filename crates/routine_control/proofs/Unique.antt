@@ -34,6 +34,10 @@ use Rattle.routine_control.proofs.sub_function.RoutineControlSubFunction.from_by
 use Rattle.routine_control.proofs.sub_function.RoutineControlSubFunction.from_byte.Reads as sub-from-byte
 use Rattle.routine_control.proofs.sub_function.RoutineControlSubFunction.value.Kinds as value-kinds
 use Rattle.routine_control.proofs.sub_function.RoutineControlSubFunction.value.Reads as value
+use Rattle.routine_control.proofs.sub_function.RoutineControlSubFunctionTryFromU8 as sub_of_byte
+use Rattle.routine_control.proofs.sub_function.U8FromRoutineControlSubFunction as byte_of_sub
+use Rattle.routine_control.proofs.sub_function.SuppressablePositiveResponseTryFromU8 as suppress_of_byte
+use Rattle.routine_control.proofs.sub_function.U8FromSuppressablePositiveResponse as byte_of_suppress
 use Rattle.routine_control.proofs.sub_function.SuppressablePositiveResponse.from_byte.Kinds as suppress-from-byte-kinds
 use Rattle.routine_control.proofs.sub_function.SuppressablePositiveResponse.from_byte.Reads as suppress-from-byte
 use Rattle.routine_control.proofs.sub_function.SuppressablePositiveResponse.to_byte.Kinds as to-byte-kinds
@@ -79,8 +83,14 @@ sub-answer-back (Err e) = ap Err (refusal-back e)
 pub sub_from_byte_determined : Determined 0 sub-from-byte-kinds.ps sub-from-byte-kinds.r sub-from-byte.Post
 sub_from_byte_determined κs a x y r₁ r₂ p q = sym (sub-answer-back r₁) ∙ ap sub_answer_back (p ∙ sym q) ∙ sub-answer-back r₂
 
+pub sub_try_from_determined : Determined 0 sub_of_byte.try_from.Kinds.ps sub_of_byte.try_from.Kinds.r sub_of_byte.try_from.Reads.Post
+sub_try_from_determined κs a x y r₁ r₂ p q = sym (sub-answer-back r₁) ∙ ap sub_answer_back (p ∙ sym q) ∙ sub-answer-back r₂
+
 pub value_determined : Determined 0 value-kinds.ps value-kinds.r value.Post
 value_determined κs a x y r₁ r₂ p q = p ∙ sym q
+
+pub sub_into_byte_determined : Determined 0 byte_of_sub.from.Kinds.ps byte_of_sub.from.Kinds.r byte_of_sub.from.Reads.Post
+sub_into_byte_determined κs a x y r₁ r₂ p q = p ∙ sym q
 
 -- ---- the first byte of a request
 abbrev suppress_of : Bool → RoutineControlSubFunction → SuppressablePositiveResponse
@@ -96,6 +106,12 @@ suppress-back (Err e) = ap Err (refusal-back e)
 
 pub suppress_from_byte_determined : Determined 0 suppress-from-byte-kinds.ps suppress-from-byte-kinds.r suppress-from-byte.Post
 suppress_from_byte_determined κs a x y r₁ r₂ p q = sym (suppress-back r₁) ∙ ap suppress_back (p ∙ sym q) ∙ suppress-back r₂
+
+pub suppress_try_from_determined : Determined 0 suppress_of_byte.try_from.Kinds.ps suppress_of_byte.try_from.Kinds.r suppress_of_byte.try_from.Reads.Post
+suppress_try_from_determined κs a x y r₁ r₂ p q = sym (suppress-back r₁) ∙ ap suppress_back (p ∙ sym q) ∙ suppress-back r₂
+
+pub suppress_into_byte_determined : Determined 0 byte_of_suppress.from.Kinds.ps byte_of_suppress.from.Kinds.r byte_of_suppress.from.Reads.Post
+suppress_into_byte_determined κs a x y r₁ r₂ p q = p ∙ sym q
 
 pub to_byte_determined : Determined 0 to-byte-kinds.ps to-byte-kinds.r to-byte.Post
 to_byte_determined κs a x y r₁ r₂ p q = p ∙ sym q
