@@ -1,20 +1,19 @@
 -- What the code's records, states and answers say, in the paper's terms.
-use Rattle.std.specs.Prelude.{ℕ, ◌+◌}
+use Rattle.std.specs.Prelude.{◌≡◌, ℕ, ◌+◌, ◌≤◌, List, Option, None, Some, Result, Ok, Err}
 use Rattle.paper.specs.Answer as paper-answer
 use Rattle.paper.specs.Answer.{accepted, refused}
 use Rattle.paper.specs.Replay as paper
-use Rattle.paper.specs.Replay.{log_record, none, counter, closed, opened, state, ran, stopped, does, within64}
+use Rattle.paper.specs.Replay.{log_record, record_of, none, counter, closed, opened, state, ran, stopped, does, within64}
 use Rattle.wire.specs.Refusals.{row}
-use Rattle.replay.specs.declared.Last.{Last}
+use Rattle.wire.specs.declared.refusal.Refusal.{Refusal}
 use Rattle.replay.specs.declared.Transfer.{Transfer}
 use Rattle.replay.specs.declared.State.{State}
 use Rattle.replay.specs.declared.LogRecord.{LogRecord}
-use Rattle.replay.specs.declared.StepAnswer.{StepAnswer}
-use Rattle.replay.specs.declared.ReplayAnswer.{ReplayAnswer}
+use Rattle.replay.specs.declared.Stopped.{Stopped}
 
-abbrev pub last_of : Last → paper.Last
-last_of Last.Nothing = none
-last_of (Last.Counter c) = counter c
+abbrev pub last_of : Option ℕ → paper.Last
+last_of None = none
+last_of (Some c) = counter c
 
 abbrev pub transfer_of : Transfer → paper.Transfer
 transfer_of Transfer.Closed = closed
@@ -26,13 +25,18 @@ state_of st = state (transfer_of st.transfer) st.repeats st.total
 abbrev pub meant : LogRecord → paper.LogRecord
 meant r = log_record r.service r.kind_or_counter r.payload
 
-abbrev pub step_said : StepAnswer → paper-answer.Answer paper.State
-step_said (StepAnswer.Accepted st) = accepted (state_of st)
-step_said (StepAnswer.Refused e) = refused (row e)
+-- the record that some bytes are
+pub record IsRecord (bytes : List ℕ) (r : LogRecord) : Type 0 where
+  pub right : meant r ≡ record_of bytes
+  pub short : r.payload ≤ 65535
 
-abbrev pub ended_said : ReplayAnswer → paper.Ended
-ended_said (ReplayAnswer.Accepted st) = ran (state_of st)
-ended_said (ReplayAnswer.Refused e st) = stopped (row e) (state_of st)
+abbrev pub step_said : Result State Refusal → paper-answer.Answer paper.State
+step_said (Ok st) = accepted (state_of st)
+step_said (Err e) = refused (row e)
+
+abbrev pub ended_said : Result State Stopped → paper.Ended
+ended_said (Ok st) = ran (state_of st)
+ended_said (Err e) = stopped (row e.refusal) (state_of e.before)
 
 -- a transfer beside so many repeats and bytes more, where 64 bits hold them
 abbrev pub with_more : State → Transfer → ℕ → ℕ → paper-answer.Answer paper.State

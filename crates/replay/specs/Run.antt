@@ -1,18 +1,20 @@
 -- How far the run of a log has come.
-use Rattle.std.specs.Prelude.{◌≡◌, ℕ, ◌-◌, ◌*◌, ◌≤◌, List, drop}
-use Rattle.paper.specs.Replay.{records_in, start, run_from}
+use Rattle.std.specs.Prelude.{◌≡◌, ℕ, ◌+◌, ◌*◌, ◌^◌, ◌<◌, ◌≤◌, List, length, map}
+use Rattle.paper.specs.Replay.{LogRecord, record_of, run_from}
 use Rattle.replay.specs.Replay.{state_of}
-use Rattle.replay.specs.declared.Last.{Last}
-use Rattle.replay.specs.declared.Transfer.{Transfer}
 use Rattle.replay.specs.declared.State.{State}
 
--- a transfer whose last accepted block has this counter
-abbrev pub open_at : (last repeats total : ℕ) → State
-open_at last repeats total = record { transfer = Transfer.Open (Last.Counter last); repeats = repeats; total = total }
+abbrev pub records : List (List ℕ) → List LogRecord
+records = map record_of
 
--- k of the n records of s were run, and led to this state: it has counted no more than they have, and what is left leads where all of them do
-pub record Running (s : List ℕ) (n : ℕ) (st : State) (k : ℕ) : Type 0 where
-  pub within : k ≤ n
-  pub few : st.repeats ≤ k
-  pub short : st.total ≤ 65535 * k
-  pub leads : run_from k (records_in (n - k) (drop (4 * k) s)) (state_of st) ≡ run_from 0 (records_in n s) start
+-- 64 bits hold what n more records may count
+pub record HoldsMore (st : State) (n : ℕ) : Type 0 where
+  pub few : st.repeats + n < 2 ^ 64
+  pub short : st.total + 65535 * n < 2 ^ 64
+
+-- a run that had come to place k of a log has come to another: it has counted no more than the records between have, and what is left leads where all of them do
+pub record Passes (k : ℕ) (st : State) (rows : List (List ℕ)) (at : ℕ) (reached : State) (left : List (List ℕ)) : Type 0 where
+  pub within : at + length left ≡ k + length rows
+  pub few : reached.repeats + k ≤ st.repeats + at
+  pub short : reached.total + 65535 * k ≤ st.total + 65535 * at
+  pub leads : run_from k (records rows) (state_of st) ≡ run_from at (records left) (state_of reached)

@@ -1,37 +1,34 @@
--- `replay::blocks_from` meets its contract: each block that it passes goes on with the run, and where it ends, the run has come so far.
-use Rattle.std.proofs.Common.{◌-◌, ◌∙◌, subst, arith}
-use Rattle.replay.specs.Run.{Running}
-use Rattle.replay.specs.declared.State.{State}
-use Rattle.replay.proofs.Blocks.{as_open, again, new}
-use Rattle.replay.proofs.blocks_from.Goals.{then-counter-last, else-counter-last+else-counter-next_counter}
+-- Each block leads on.
+use Rattle.std.proofs.Common.{◌≡◌, ◌+◌, ◌∙◌, Some, subst, arith}
+use Rattle.replay.specs.Run.{Passes}
+use Rattle.replay.proofs.Runs.{as_open, stays, one_more, so_many_more, again, new}
 use Rattle.replay.proofs.blocks_from.Goals as goal
 
 pub returns-in_default : goal.returns-in_default
-returns-in_default c = (omega arith, c.requires.2)
+returns-in_default c k = (k, stays k _ _)
 
-pub returns-in_default-before : goal.returns-in_default-before
-returns-in_default-before c = (omega arith, c.requires.2)
+pub loop-bytes-init : goal.loop-bytes-init
+loop-bytes-init c k =
+    let some : c.in-Open-Some.field-0 ≡ Some c.in-Open-Some.first = rw c.in-Open-Some.is at c.in-Open-Some.field-0-is in
+    (k, subst (λ st. Passes k c.args.state c.args.log.now k st c.args.log.now) (as_open c.args.state c.in-Open-Some.is some) (stays k _ _))
 
-pub loop-k-init : goal.loop-k-init
-loop-k-init c =
-    (omega arith, subst (λ (st : State). Running c.args.log.now c.args.n st c.args.from) (as_open c.args.state c.in-Open.is c.in-Counter.is) c.requires.2)
+pub overflow_add-repeats : goal.overflow_add-repeats
+overflow_add-repeats c =
+    let fits = one_more 0 _ _ _ _ _ _ _ _ _ c.from-record.result (c.loop-bytes.invariant 0).1 c.requires c.in-Some.ensures.cases.0 c.from-record.ensures c.if-record-ne54.false in
+    omega (arith, fits)
 
-pub returns-then-record-ne54 : goal.returns-then-record-ne54
-returns-then-record-ne54 c = rw (c.reached_at.ensures.0, c.reached_at.ensures.1) c.loop-k.invariant
+pub overflow_add-total : goal.overflow_add-total
+overflow_add-total c =
+    let fits = so_many_more 0 _ _ _ _ _ _ _ _ _ c.from-record.result (c.loop-bytes.invariant 0).1 c.requires c.in-Some.ensures.cases.0 c.from-record.ensures c.if-record-ne54.false in
+    omega (arith, fits, c.from-total.ensures)
 
-pub returns-then-counter-next_counter : goal.returns-then-counter-next_counter
-returns-then-counter-next_counter c = rw (c.reached_at-then-counter-next_counter.ensures.0, c.reached_at-then-counter-next_counter.ensures.1) c.loop-k.invariant
+pub loop-bytes-preserved-then-counter-last : goal.loop-bytes-preserved-then-counter-last
+loop-bytes-preserved-then-counter-last c k =
+    let run = c.loop-bytes.invariant k in
+    (run.0 + 1, again k _ _ _ _ _ _ _ _ _ c.from-record.result run.1 c.requires c.in-Some.ensures.cases.0 c.from-record.ensures c.if-record-ne54.false c.if-counter-last.true)
 
-pub loop-k-preserved : goal.loop-k-preserved
-loop-k-preserved c =
-    let x = c.loop-k in
-    let r = c.record_at-record in (
-      omega (arith, x.invariant.0),
-      elim c.if-counter-last.branch [
-        | then-counter-last w ↦ rw (w.last-is, w.repeats-is, w.total-is) (again c.args.log.now c.args.n x.k x.last x.repeats x.total r.result x.invariant.1 c.loop-k-test.true c.requires.1 r.ensures.0 r.ensures.1 c.if-record-ne54.false w.if-counter-last.true)
-        | else-counter-last+else-counter-next_counter w ↦ rw (w.last-is, w.repeats-is, w.total-is) (new c.args.log.now c.args.n x.k x.last x.repeats x.total r.result x.invariant.1 c.loop-k-test.true c.requires.1 r.ensures.0 r.ensures.1 c.if-record-ne54.false w.if-counter-last.false (w.if-counter-next_counter.false ∙ w.next_counter.ensures))
-      ],
-    )
-
-pub returns : goal.returns
-returns c = rw (c.reached_at-2.ensures.0, c.reached_at-2.ensures.1) c.loop-k.invariant
+pub loop-bytes-preserved : goal.loop-bytes-preserved
+loop-bytes-preserved c k =
+    let run = c.loop-bytes.invariant k in
+    let on = new k _ _ _ _ _ _ _ _ _ c.from-record.result run.1 c.requires c.in-Some.ensures.cases.0 c.from-record.ensures c.if-record-ne54.false c.if-counter-last.false (c.if-counter-next_counter.true ∙ c.next_counter.ensures) in
+    (run.0 + 1, rw c.from-total.ensures on)

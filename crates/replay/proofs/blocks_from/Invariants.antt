@@ -1,10 +1,11 @@
--- `replay::blocks_from` meets its contract: each block that it passes goes on with the run, and where it ends, the run has come so far.
-use Rattle.std.proofs.Common.{◌-◌, ◌≤◌}
-use Rattle.replay.specs.Run.{open_at, Running}
+-- The blocks so far have led to the transfer that is open, with the counter of the last of them; the measure is what is left of the log.
+use Rattle.std.proofs.Common.{ℕ, length}
+use Rattle.replay.specs.Run.{Passes}
+use Rattle.replay.proofs.Runs.{open_at}
 use Rattle.replay.proofs.blocks_from.Given as goal
 
-abbrev pub invariant-loop-k : goal.invariant-loop-k
-invariant-loop-k l = (l.from ≤ l.k) × Running l.log l.n (open_at l.last l.repeats l.total) l.k
+abbrev pub invariant-loop-bytes : goal.invariant-loop-bytes
+invariant-loop-bytes l = (k : ℕ) → (at : ℕ) × Passes k l.fn.state l.fn.log at (open_at l.last l.repeats l.total) l.rest
 
-abbrev pub decreases-loop-k : goal.decreases-loop-k
-decreases-loop-k l = l.n - l.k
+abbrev pub decreases-loop-bytes : goal.decreases-loop-bytes
+decreases-loop-bytes l = length l.rest

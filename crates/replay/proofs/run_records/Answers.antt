@@ -1,31 +1,43 @@
--- `replay::run_records` meets its contract. The loop's invariant: the records so far led to the state, and what is left leads where all of them do.
-use Rattle.std.proofs.Common.{◌-◌, sym, ap, ◌∙◌}
-use Rattle.replay.specs.Replay.{step_said}
-use Rattle.replay.proofs.Runs.{begins, goes_on_lem, stops, ends}
+-- Each record leads on, or ends the run.
+use Rattle.std.proofs.Common.{◌≡◌, ◌+◌, ◌-◌, ◌∙◌, subst, ap, length, arith}
+use Rattle.std.proofs.lemmas.Result.{err_from_is_err_and}
+use Rattle.paper.specs.Replay.{run_from}
+use Rattle.replay.specs.Run.{records, Passes}
+use Rattle.replay.proofs.Runs.{stays, go_on, still, first, went_on, stops, ends}
 use Rattle.replay.proofs.run_records.Goals as goal
 
-pub loop-k-init : goal.loop-k-init
-loop-k-init c = let a = c.args in begins a.log.now a.n c.start-state.result c.start-state.ensures
+pub loop-bytes-init : goal.loop-bytes-init
+loop-bytes-init c =
+    let log = c.args.log.now in
+    let none : 0 ≡ length log - length log = omega arith in
+    subst (λ at. Passes 0 c.start-state.result log at c.start-state.result log) none (stays 0 c.start-state.result log)
 
-pub returns-in-Refused : goal.returns-in-Refused
-returns-in-Refused c =
-    let a = c.args in
-    stops a.log.now a.n c.loop-k.k c.loop-k.state c.record_at.result c.loop-k.invariant c.loop-k-test.true c.requires.1
-    c.record_at.ensures.0 c.record_at.ensures.1 (sym (ap step_said c.in-Refused.is) ∙ c.step-answer.ensures)
+pub returns-in_err-next : goal.returns-in_err-next
+returns-in_err-next c =
+    let log = c.args.log.now in
+    let p = err_from_is_err_and c.from_residual.result c.from_residual.ensures.1 in
+    let told = stops 0 c.start-state.result log _ c.loop-bytes.state c.loop-bytes.rest.now _ _ c.from.result c.loop-bytes.invariant (first _ _ c.start-state.ensures c.requires) c.in-Some.ensures.cases.0 c.from.ensures c.in_err-next.ensures in
+    rw (p.1, p.2) (told ∙ ap (run_from 0 (records log)) c.start-state.ensures)
 
--- the record is accepted, and the blocks after it are run from there
-pub blocks_from-run-requires : goal.blocks_from-run-requires
-blocks_from-run-requires c =
-    let a = c.args in
-    let few = c.requires.1 in (
-      c.requires.0,
-      few,
-      goes_on_lem a.log.now a.n c.loop-k.k c.loop-k.state c.record_at.result c.loop-k.invariant c.loop-k-test.true few
-          c.record_at.ensures.0 c.record_at.ensures.1 c.in-Accepted.next (sym (ap step_said c.in-Accepted.is) ∙ c.step-answer.ensures),
-    )
+pub blocks_from-requires : goal.blocks_from-requires
+blocks_from-requires c =
+    let log = c.args.log.now in
+    let begun = first _ _ c.start-state.ensures c.requires in
+    still (went_on 0 c.start-state.result log _ c.loop-bytes.state c.loop-bytes.rest.now _ _ c.from.result c.loop-bytes.invariant begun c.in-Some.ensures.cases.0 c.from.ensures c.in_ok-next.next c.in_ok-next.ensures) begun
 
-pub loop-k-preserved : goal.loop-k-preserved
-loop-k-preserved c = c.blocks_from-run.ensures.1
+pub loop-bytes-smaller : goal.loop-bytes-smaller
+loop-bytes-smaller c = let p = c.blocks_from.ensures 0 in omega (arith, p.1.within, c.in-Some.ensures.cases.1)
+
+pub loop-bytes-preserved : goal.loop-bytes-preserved
+loop-bytes-preserved c =
+    let log = c.args.log.now in
+    let on = went_on 0 c.start-state.result log _ c.loop-bytes.state c.loop-bytes.rest.now _ _ c.from.result c.loop-bytes.invariant (first _ _ c.start-state.ensures c.requires) c.in-Some.ensures.cases.0 c.from.ensures c.in_ok-next.next c.in_ok-next.ensures in
+    let p = c.blocks_from.ensures ((length log - length c.loop-bytes.rest.now) + 1) in
+    let all = go_on on p.1 in
+    let here : p.0 ≡ length log - length c.blocks_from.result.1.now = omega (arith, all.within) in
+    subst (λ at. Passes 0 c.start-state.result log at c.blocks_from.result.0 c.blocks_from.result.1.now) here all
 
 pub returns : goal.returns
-returns c = let a = c.args in ends a.log.now a.n c.loop-k.k c.loop-k.state c.loop-k.invariant c.loop-k-test.false
+returns c =
+    let all = ends 0 c.start-state.result c.args.log.now _ c.loop-bytes.state c.loop-bytes.rest.now c.loop-bytes.invariant c.in_default.ensures.cases in
+    all ∙ ap (run_from 0 (records c.args.log.now)) c.start-state.ensures

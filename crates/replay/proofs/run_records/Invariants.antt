@@ -1,10 +1,10 @@
--- `replay::run_records` meets its contract. The loop's invariant: the records so far led to the state, and what is left leads where all of them do.
-use Rattle.std.proofs.Common.{◌-◌}
-use Rattle.replay.specs.Run.{Running}
+-- The records so far led to the state, and what is left leads where all of them do; the measure is what is left of the log.
+use Rattle.std.proofs.Common.{◌-◌, length}
+use Rattle.replay.specs.Run.{Passes}
 use Rattle.replay.proofs.run_records.Given as goal
 
-abbrev pub invariant-loop-k : goal.invariant-loop-k
-invariant-loop-k l = Running l.log l.n l.state l.k
+abbrev pub invariant-loop-bytes : goal.invariant-loop-bytes
+invariant-loop-bytes l = Passes 0 l.initial.state l.log (length l.log - length l.rest) l.state l.rest
 
-abbrev pub decreases-loop-k : goal.decreases-loop-k
-decreases-loop-k l = l.n - l.k
+abbrev pub decreases-loop-bytes : goal.decreases-loop-bytes
+decreases-loop-bytes l = length l.rest
