@@ -1,37 +1,30 @@
 -- Demand 3 of responses, of this crate's own calls: two responses say the same exactly if `rewrite_response` makes the same bytes of both, and these are the shortest that say it.
 -- Assumes nothing.
 use Prim.Native.Nat.{ℕ}
-use mathlib.Core.Path.{◌≡◌, refl, sym, ap, ◌∙◌}
+use mathlib.Core.Path.{◌≡◌, sym, ap, ◌∙◌}
 use mathlib.Core.List.{List}
 use mathlib.Core.Logic.Iff
 use Rattle.paper.specs.Response.{Response, read_response, rewrite_response}
 use Rattle.paper.proofs.Response.{response_demand_3}
-use Rattle.wire.specs.Reading.{Seen, found, stopped}
+use Rattle.wire.specs.Reading.{Seen}
 use Rattle.file_operation.specs.Rewriting.{Rewrote}
 use Rattle.file_operation.specs.Calls.{ReadCall, RewriteCall, Demand3}
 use Rattle.file_operation.specs.declared.payload.PositionPayload.{PositionPayload}
-use Rattle.file_operation.specs.declared.rewrite.RewriteAnswer.{RewriteAnswer}
 use Rattle.file_operation.proofs.Calls.{read_calls, rewrite_calls}
 use Rattle.file_operation.proofs.Demand.{Keeps, calls_demand_3}
 use Rattle.file_operation.proofs.Unique.{kind_back, kind-back, format_of, file_sizes_back, file-sizes-back}
-use Rattle.request_file_transfer_response.specs.Reading.{seen_response, meant, Placed, SeenRight}
+use Rattle.request_file_transfer_response.specs.Reading.{meant, Placed, ResponseRight}
 use Rattle.request_file_transfer_response.specs.Same.{Same}
 use Rattle.request_file_transfer_response.specs.declared.read.RequestFileTransferResponse.{RequestFileTransferResponse}
-use Rattle.request_file_transfer_response.proofs.Unique.{answer_of}
 use Rattle.request_file_transfer_response.proofs.read.read_response.Reads as read-response
 use Rattle.request_file_transfer_response.proofs.rewrite.rewrite_response.Reads as rewrite-response
 
 -- the calls of `read_response` and of `rewrite_response` that kept their contracts
 abbrev pub ReadResponseCall : List ℕ → Seen RequestFileTransferResponse → Type 0
-ReadResponseCall = ReadCall read-response.Post seen_response
+ReadResponseCall = ReadCall read-response.Post
 
-abbrev pub RewriteResponseCall : List ℕ → List ℕ → RewriteAnswer → List ℕ → Type 0
+abbrev pub RewriteResponseCall : List ℕ → List ℕ → Seen ℕ → List ℕ → Type 0
 RewriteResponseCall = RewriteCall rewrite-response.Post
-
--- what was answered is what was seen
-seen_again : (x : Seen RequestFileTransferResponse) → seen_response (answer_of x) ≡ x
-seen_again (found q tail) = refl
-seen_again (stopped e) = refl
 
 -- the position that a number stands for
 abbrev pub position_of : ℕ → PositionPayload
@@ -58,7 +51,7 @@ pub responses_keep : Keeps read_response rewrite_response meant Placed ReadRespo
 responses_keep = record {
   paper = response_demand_3;
   within = λ s q n h. h.within;
-  reads = read_calls SeenRight (λ κs a r x. Iff.rfl) answer_of seen_again;
+  reads = read_calls ResponseRight (λ κs a r x. Iff.rfl);
   rewrites = rewrite_calls (Rewrote rewrite_response) (λ κs a r x. Iff.rfl);
   same = λ s t q p n m h k. (to_paper s t q p, from_paper s t q p n m h k);
 }

@@ -5,6 +5,7 @@ use Prim.Native.Nat.{ℕ, ◌+◌, ◌≤◌, ◌<◌}
 use mathlib.Core.List.{List, [], ◌∷◌, ◌++◌, append_assoc}
 use native.Mathlib.Omega.{arith}
 use lib.ListN.{length, length-append}
+use Rattle.std.specs.Prelude.{Result, Ok, Err}
 use Rattle.paper.specs.Answer.{Answer, accepted, refused, ◌then◌}
 use Rattle.paper.specs.Kind.{mode_of}
 use Rattle.paper.specs.Field.{with_count}
@@ -14,7 +15,6 @@ use Rattle.paper.proofs.Response.{good-block-length}
 use Rattle.wire.specs.Refusals.{row}
 use Rattle.wire.specs.Writing.{Wrote, Filled, counted_run, sizes_out}
 use Rattle.wire.specs.declared.refusal.Refusal.{Refusal}
-use Rattle.wire.specs.declared.write.WriteAnswer.{WriteAnswer}
 use Rattle.wire.proofs.Over.{rest, back, filled_more, filled_as}
 use Rattle.wire.proofs.Writes.{writes, passed, filled}
 use Rattle.wire.proofs.FieldBytes.{counted-good, length_counted}
@@ -99,30 +99,30 @@ module _ (kind : FileOperationMode) (b : List ℕ) (x : FileSizePayload) where
 
     module _ {old : List ℕ} where
       -- a refusal of `needed` is the response's
-      pub too_long_lem : (e : Refusal) → refused (row e) ≡ length_in bare → Wrote whole old (WriteAnswer.Refused e) old
+      pub too_long_lem : (e : Refusal) → refused (row e) ≡ length_in bare → Wrote whole old (Err e) old
       too_long_lem e said = same-refusal whole (said ∙ as_long)
 
       module _ {n : ℕ} (said : accepted n ≡ length_in bare) where
         -- too little room
-        pub no_room_lem : length old < n → Wrote whole old (WriteAnswer.Refused (Refusal.NoRoom n (length old))) old
+        pub no_room_lem : length old < n → Wrote whole old (Err (Refusal.NoRoom n (length old))) old
         no_room_lem h = same_number whole (said ∙ as_long) h
 
         -- room for the bytes that the response consists of
-        written_out : {bytes new : List ℕ} → whole ≡ accepted bytes → n ≤ length old → Filled bytes old new → Wrote whole old (WriteAnswer.Accepted n) new
+        written_out : {bytes new : List ℕ} → whole ≡ accepted bytes → n ≤ length old → Filled bytes old new → Wrote whole old (Ok n) new
         written_out is room new = passed is (writes _ (cc (said, as_long, ap length_in is)) room new)
 
         -- the mode, where the kind has nothing else
-        pub mode_alone : {r : WriteAnswer} {new : List ℕ} → ended ≡ after_mode (kind_of kind) → n ≤ length old
-            → Wrote (accepted (mode_of (kind_of kind) ∷ [])) old r new → Wrote whole old (WriteAnswer.Accepted n) new
+        pub mode_alone : {r : Result ℕ Refusal} {new : List ℕ} → ended ≡ after_mode (kind_of kind) → n ≤ length old
+            → Wrote (accepted (mode_of (kind_of kind) ∷ [])) old r new → Wrote whole old (Ok n) new
         mode_alone listed room first = written_out (by_row kind b f x p ∙ rw (← listed)) room (filled refl first)
 
         -- else each field, in the room that begins where the previous one ended
-        pub each-field : {r s t : WriteAnswer} {u v w z : List ℕ} {h : AfterFormat} → block_and_format h ≡ after_mode (kind_of kind) → n ≤ length old
+        pub each-field : {r s t : Result ℕ Refusal} {u v w z : List ℕ} {h : AfterFormat} → block_and_format h ≡ after_mode (kind_of kind) → n ≤ length old
             → Wrote (accepted (mode_of (kind_of kind) ∷ [])) old r u
             → Wrote (counted_run 1 255 b) (rest 1 u) s v
             → Wrote (accepted (f ∷ [])) (rest (2 + length b) (back 1 u v)) t w
             → Filled (more_bytes h x p) (rest (2 + length b + 1) (back (2 + length b) (back 1 u v) w)) z
-            → Wrote whole old (WriteAnswer.Accepted n) (back (2 + length b + 1) (back (2 + length b) (back 1 u v) w) z)
+            → Wrote whole old (Ok n) (back (2 + length b + 1) (back (2 + length b) (back 1 u v) w) z)
         each-field {h = h} listed room first second third fourth =
             let ok = (counts said listed).0 in
             written_out (by_row kind b f x p ∙ rw (← listed, (good-block-length b b).1 (refl, ok))) room

@@ -1,6 +1,6 @@
 -- Every record that a public maker makes holds a block length: at most 255 bytes; and that of a response holds the bytes that were read. Said of the makers' contracts, as the check reads them.
 -- Assumes nothing.
-use mathlib.Core.Path.{◌≡◌, refl, sym, ap, ◌∙◌}
+use mathlib.Core.Path.{◌≡◌, refl, ap, ◌∙◌}
 use Prim.Native.Nat.{ℕ, ◌≤◌}
 use mathlib.Core.List.{List, ◌∷◌, ◌++◌, append_assoc}
 use native.Mathlib.Omega.{arith}

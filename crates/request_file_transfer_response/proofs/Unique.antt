@@ -9,24 +9,22 @@ use denote.Triple.Clauses.{AtExit}
 use borrow.Fn.Kinds.{Dens, ended_of}
 use borrow.Fn.World.{ArgsD}
 use lib.ListN.{length}
+use Rattle.std.specs.Prelude.{Result, Option, Some, None}
 use Rattle.paper.specs.Response as paper
 use Rattle.paper.specs.Response.{Response, nothing, two_sizes, one_size, one_position, ended, block_and_format, after_mode}
-use Rattle.wire.specs.Reading.{Seen, found, stopped}
+use Rattle.wire.specs.Reading.{Seen}
+use Rattle.wire.specs.declared.refusal.Refusal.{Refusal}
 use Rattle.wire.specs.declared.size.Size.{Size}
-use Rattle.wire.specs.declared.write.WriteAnswer.{WriteAnswer}
 use Rattle.wire.proofs.Unique.{Determined, once, place_of, place_back}
 use Rattle.wire.proofs.UniqueHeld.{Alike, alike, Settled, settled}
 use Rattle.wire.proofs.UniqueWriting.{answer_back, answer_back_lem, wrote_once}
 use Rattle.file_operation.specs.declared.payload.DirSizePayload.{DirSizePayload}
-use Rattle.file_operation.specs.declared.rewrite.RewriteAnswer.{RewriteAnswer}
 use Rattle.file_operation.proofs.Unique.{kind_back, kind-back, format_of, file_sizes_back, file-sizes-back, part_back, part-back}
 use Rattle.file_operation.proofs.UniqueRewriting.{rewrote_once}
 use Rattle.request_file_transfer_response.specs.Layout.{more_of, layout_of}
-use Rattle.request_file_transfer_response.specs.Reading.{block_start, seen_response, meant, Placed}
+use Rattle.request_file_transfer_response.specs.Reading.{block_start, meant, Placed}
 use Rattle.request_file_transfer_response.specs.declared.layout.AfterFormat.{AfterFormat}
-use Rattle.request_file_transfer_response.specs.declared.layout.AfterMode.{AfterMode}
 use Rattle.request_file_transfer_response.specs.declared.read.RequestFileTransferResponse.{RequestFileTransferResponse}
-use Rattle.request_file_transfer_response.specs.declared.read.ResponseAnswer.{ResponseAnswer}
 use Rattle.request_file_transfer_response.proofs.layout.after_mode.Kinds as after-mode-kinds
 use Rattle.request_file_transfer_response.proofs.layout.after_mode.Reads as after-mode
 use Rattle.request_file_transfer_response.proofs.read.RequestFileTransferResponse.dir_size.Kinds as dir-size-kinds
@@ -68,14 +66,14 @@ more-back AfterFormat.OneSize = refl
 more-back AfterFormat.Position = refl
 
 -- the code's table entry for the paper's, after the mode
-abbrev layout_back : paper.AfterMode → AfterMode
-layout_back ended = AfterMode.Ended
-layout_back (block_and_format h) = AfterMode.BlockAndFormat (more_back h)
+abbrev layout_back : paper.AfterMode → Option AfterFormat
+layout_back ended = None
+layout_back (block_and_format h) = Some (more_back h)
 
 -- it comes back from the paper's
-layout-back : (h : AfterMode) → layout_back (layout_of h) ≡ h
-layout-back AfterMode.Ended = refl
-layout-back (AfterMode.BlockAndFormat h) = ap AfterMode.BlockAndFormat (more-back h)
+layout-back : (h : Option AfterFormat) → layout_back (layout_of h) ≡ h
+layout-back None = refl
+layout-back (Some h) = ap Some (more-back h)
 
 -- what stands after the mode
 pub after_mode_determined : Determined 0 after-mode-kinds.ps after-mode-kinds.r after-mode.Post
@@ -99,19 +97,9 @@ response-back s q tail h = (
   h.within,
 )
 
--- the answer that was seen
-abbrev pub answer_of : Seen RequestFileTransferResponse → ResponseAnswer
-answer_of (found q tail) = ResponseAnswer.Accepted q tail
-answer_of (stopped e) = ResponseAnswer.Refused e
-
--- an answer is the one that was seen
-answer-again : (r : ResponseAnswer) → answer_of (seen_response r) ≡ r
-answer-again (ResponseAnswer.Accepted q tail) = refl
-answer-again (ResponseAnswer.Refused e) = refl
-
 -- the response and where the tail begins, or the refusal
 pub read_response_determined : Determined 1 read-response-kinds.ps read-response-kinds.r read-response.Post
-read_response_determined κs a x y = once response_back (response-back a.0.now) seen_response answer_of answer-again
+read_response_determined κs a x y r₁ r₂ = once response_back (response-back a.0.now)
 
 -- the payload of a size
 abbrev dir_size_of : Size → DirSizePayload
@@ -156,12 +144,12 @@ pub needed_determined : Determined 1 needed-kinds.ps needed-kinds.r needed.Post
 needed_determined κs a x y r₁ r₂ p q = sym (answer_back_lem r₁) ∙ ap answer_back (p ∙ sym q) ∙ answer_back_lem r₂
 
 -- the answer, and what the buffer, the sixth parameter, holds at the exit
-pub write_response_determined : (κs : Lfts 2) (a : ArgsD write-response.signature κs) (x y : AtExit (ended_of 2 write-response-kinds.ps write-response-kinds.r) κs) (r s : WriteAnswer)
+pub write_response_determined : (κs : Lfts 2) (a : ArgsD write-response.signature κs) (x y : AtExit (ended_of 2 write-response-kinds.ps write-response-kinds.r) κs) (r s : Result ℕ Refusal)
     → write-response-reads.Post κs a r x → write-response-reads.Post κs a s y → (r ≡ s) × (x.1.1.1.1.1.0.now ≡ y.1.1.1.1.1.0.now)
 write_response_determined κs a x y r s p q = wrote_once p q
 
 -- ---- rewriting
 -- the answer, and what the buffer, the second parameter, holds at the exit
-pub rewrite_response_determined : (κs : Lfts 2) (a : ArgsD rewrite-response.signature κs) (x y : AtExit (ended_of 2 rewrite-response-kinds.ps rewrite-response-kinds.r) κs) (r s : RewriteAnswer)
+pub rewrite_response_determined : (κs : Lfts 2) (a : ArgsD rewrite-response.signature κs) (x y : AtExit (ended_of 2 rewrite-response-kinds.ps rewrite-response-kinds.r) κs) (r s : Seen ℕ)
     → rewrite-response-reads.Post κs a r x → rewrite-response-reads.Post κs a s y → (r ≡ s) × (x.1.0.now ≡ y.1.0.now)
 rewrite_response_determined κs a x y r s p q = rewrote_once p q

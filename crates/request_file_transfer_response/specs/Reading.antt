@@ -3,38 +3,27 @@ use Rattle.std.specs.Prelude.{◌≡◌, ℕ, ◌+◌, ◌^◌, ◌≤◌, ◌<�
 use Rattle.paper.specs.Kind.{Kind}
 use Rattle.paper.specs.Response.{Response, response, AfterFormat, AfterMode, ended, block_and_format, after_mode, read_after_format, read_after_mode, read_response}
 use Rattle.wire.specs.Size.{value}
-use Rattle.wire.specs.Reading.{Seen, found, stopped, Right}
+use Rattle.wire.specs.Reading.{Seen, Right}
 use Rattle.wire.specs.Place.{bytes_at}
 use Rattle.file_operation.specs.Mode.{kind_of}
 use Rattle.file_operation.specs.declared.payload.FileSizePayload.{FileSizePayload}
 use Rattle.request_file_transfer_response.specs.declared.read.More.{More}
-use Rattle.request_file_transfer_response.specs.declared.read.MoreAnswer.{MoreAnswer}
 use Rattle.request_file_transfer_response.specs.declared.read.Body.{Body}
-use Rattle.request_file_transfer_response.specs.declared.read.BodyAnswer.{BodyAnswer}
 use Rattle.request_file_transfer_response.specs.declared.read.RequestFileTransferResponse.{RequestFileTransferResponse}
-use Rattle.request_file_transfer_response.specs.declared.read.ResponseAnswer.{ResponseAnswer}
 
 -- the low halves are halves
 abbrev pub Halves : FileSizePayload → Type 0
 Halves x = (x.file_size_uncompressed.low < 2 ^ 64) × (x.file_size_compressed.low < 2 ^ 64)
 
 -- ---- what stands after the format byte f, in a response of kind k and block length b
-abbrev pub seen_more : MoreAnswer → Seen More
-seen_more (MoreAnswer.Accepted x next) = found x next
-seen_more (MoreAnswer.Refused e) = stopped e
-
 abbrev pub with_more : Kind → List ℕ → ℕ → More → Response
 with_more k b f x = response k b f (value x.file_size.file_size_uncompressed) (value x.file_size.file_size_compressed) x.position.file_position
 
-abbrev pub MoreRight : AfterFormat → List ℕ → ℕ → MoreAnswer → Type 0
+abbrev pub MoreRight : AfterFormat → List ℕ → ℕ → Seen More → Type 0
 MoreRight h s at r =
-    (k : Kind) (b : List ℕ) (f : ℕ) → Right More Response (with_more k b f) (read_after_format k b f h) (λ (x : More) (next : ℕ). Halves x.file_size × (next ≤ length s)) s at (seen_more r)
+    (k : Kind) (b : List ℕ) (f : ℕ) → Right More Response (with_more k b f) (read_after_format k b f h) (λ (x : More) (next : ℕ). Halves x.file_size × (next ≤ length s)) s at r
 
 -- ---- what stands after the mode, from `at` on, in a response of kind k of the message s
-abbrev pub seen_body : BodyAnswer → Seen Body
-seen_body (BodyAnswer.Accepted x next) = found x next
-seen_body (BodyAnswer.Refused e) = stopped e
-
 abbrev pub with_body : List ℕ → Kind → Body → Response
 with_body s k x = with_more k (bytes_at s x.block) x.format.0 x.more
 
@@ -50,14 +39,10 @@ pub record BodyPlaced (h : AfterMode) (s : List ℕ) (at : ℕ) (x : Body) (next
   pub halves : Halves x.more.file_size
   pub within : next ≤ length s
 
-abbrev pub BodyRight : AfterMode → List ℕ → ℕ → BodyAnswer → Type 0
-BodyRight h s at r = (k : Kind) → Right Body Response (with_body s k) (read_after_mode k h) (BodyPlaced h s at) s at (seen_body r)
+abbrev pub BodyRight : AfterMode → List ℕ → ℕ → Seen Body → Type 0
+BodyRight h s at r = (k : Kind) → Right Body Response (with_body s k) (read_after_mode k h) (BodyPlaced h s at) s at r
 
 -- ---- a response of the message s
-abbrev pub seen_response : ResponseAnswer → Seen RequestFileTransferResponse
-seen_response (ResponseAnswer.Accepted q tail) = found q tail
-seen_response (ResponseAnswer.Refused e) = stopped e
-
 -- what it means: its kind, the bytes at the block length's place, the format byte, the numbers of its sizes, the position
 abbrev pub meant : List ℕ → RequestFileTransferResponse → Response
 meant s q =
@@ -71,8 +56,5 @@ pub record Placed (s : List ℕ) (q : RequestFileTransferResponse) (tail : ℕ) 
   pub within : tail ≤ length s
 
 -- the answer is the paper's
-abbrev pub SeenRight : List ℕ → Seen RequestFileTransferResponse → Type 0
-SeenRight s x = Right RequestFileTransferResponse Response (meant s) read_response (Placed s) s 0 x
-
-abbrev pub ResponseRight : List ℕ → ResponseAnswer → Type 0
-ResponseRight s r = SeenRight s (seen_response r)
+abbrev pub ResponseRight : List ℕ → Seen RequestFileTransferResponse → Type 0
+ResponseRight s r = Right RequestFileTransferResponse Response (meant s) read_response (Placed s) s 0 r

@@ -6,7 +6,7 @@ ghost use Rattle.request_file_transfer_response.specs.Layout.{layout_of};
 
 use file_operation::mode::FileOperationMode;
 
-#[derive(Clone, Copy)]
+#[derive(Clone, Copy, Debug, PartialEq, Eq)]
 pub enum AfterFormat {
     Nothing,
     TwoSizes,
@@ -14,21 +14,15 @@ pub enum AfterFormat {
     Position,
 }
 
-#[derive(Clone, Copy)]
-pub enum AfterMode {
-    Ended,
-    BlockAndFormat(AfterFormat),
-}
-
-pub fn after_mode(kind: FileOperationMode) -> AfterMode
+// What stands after the format byte, of a kind that has a block length and a format byte; the others end with the mode.
+pub fn after_mode(kind: FileOperationMode) -> Option<AfterFormat>
     ensures { layout_of result ≡ after_mode (kind_of kind) }
 {
     match kind {
-        FileOperationMode::AddFile => AfterMode::BlockAndFormat(AfterFormat::Nothing),
-        FileOperationMode::DeleteFile => AfterMode::Ended,
-        FileOperationMode::ReplaceFile => AfterMode::BlockAndFormat(AfterFormat::Nothing),
-        FileOperationMode::ReadFile => AfterMode::BlockAndFormat(AfterFormat::TwoSizes),
-        FileOperationMode::ReadDir => AfterMode::BlockAndFormat(AfterFormat::OneSize),
-        FileOperationMode::ResumeFile => AfterMode::BlockAndFormat(AfterFormat::Position),
+        FileOperationMode::AddFile | FileOperationMode::ReplaceFile => Some(AfterFormat::Nothing),
+        FileOperationMode::DeleteFile => None,
+        FileOperationMode::ReadFile => Some(AfterFormat::TwoSizes),
+        FileOperationMode::ReadDir => Some(AfterFormat::OneSize),
+        FileOperationMode::ResumeFile => Some(AfterFormat::Position),
     }
 }

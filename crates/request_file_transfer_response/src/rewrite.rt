@@ -2,30 +2,23 @@
 ghost use Rattle.paper.specs.Response.{rewrite_response};
 ghost use Rattle.file_operation.specs.Rewriting.{Rewrote};
 
-use crate::read::{ResponseAnswer, read_response};
-use crate::sent_data::block_length_of;
+use crate::read::read_response;
 use crate::write::write_response;
-use file_operation::rewrite::{RewriteAnswer, beside_tail};
+use file_operation::rewrite::beside_tail;
+use wire::place::part_at;
+use wire::refusal::Refusal;
 
-// The reader's refusals, then 7. The tail is not written.
-pub fn rewrite_response(s: &[u8], out: &mut [u8]) -> RewriteAnswer
+// How many bytes were written and where the tail of what was read begins. The reader's refusals, then 7. The tail is not written.
+pub fn rewrite_response(s: &[u8], out: &mut [u8]) -> Result<(usize, usize), Refusal>
     ensures { Rewrote rewrite_response s.now out.old result out.new }
 {
-    let a = read_response(s);
-    let ResponseAnswer::Accepted(q, tail) = a else {
-        return RewriteAnswer::Refused(a.refusal());
-    };
-    let kind = q.kind;
-    let place = q.max_number_of_block_length;
-    let format = q.data_format_identifier;
-    let file_size = q.file_size;
-    let position = q.position;
+    let (q, tail) = read_response(s)?;
     let w = write_response(
-        kind,
-        block_length_of(s, place),
-        format,
-        file_size,
-        position,
+        q.kind,
+        part_at(s, q.max_number_of_block_length),
+        q.data_format_identifier,
+        q.file_size,
+        q.position,
         out,
     );
     beside_tail(w, tail)

@@ -2,43 +2,38 @@
 // An enum cannot hold it, so beside each of its two makers stands the call that says whether there is one: `block_length_place` beside `of_response`, `good_block_length` beside `new`.
 ghost use Rattle.std.specs.Prelude.{◌≡◌};
 ghost use Rattle.paper.specs.Response.{good_block_length};
-ghost use Rattle.wire.specs.Place.{IsPart};
 ghost use Rattle.wire.specs.Writing.{told};
 ghost use Rattle.file_operation.specs.Part.{part_said, Kept};
 ghost use Rattle.file_operation.specs.Writing.{length_in};
 ghost use Rattle.request_file_transfer_response.specs.BlockLength.{block_length_place, IsBlockLengthOf};
 
-use crate::read::{ResponseAnswer, read_response};
-use file_operation::part::PartAnswer;
+use crate::read::read_response;
+use file_operation::part::{kept_after, or_empty};
 use wire::place::{Place, part_at};
 use wire::refusal::Refusal;
-use wire::write::WriteAnswer;
 
 // Where the block length of a response stands: from 2 on, empty or not. A DeleteFile response has none, and is answered with the empty place at 0, as it is read.
 // Of a response that is refused, for whatever reason, the refusal.
-pub fn block_length_place(message: &[u8]) -> PartAnswer
+pub fn block_length_place(message: &[u8]) -> Result<Place, Refusal>
     ensures { part_said result ≡ block_length_place message.now }
 {
-    let a = read_response(message);
-    let ResponseAnswer::Accepted(q, _) = a else {
-        return PartAnswer::Refused(a.refusal());
-    };
-    let place = q.max_number_of_block_length;
-    PartAnswer::At(place)
+    let (q, _) = read_response(message)?;
+    Ok(q.max_number_of_block_length)
 }
 
 // The check of a block length when writing: how many bytes it has, or refusal 2 where they are over 255.
-pub fn good_block_length(block: &[u8]) -> WriteAnswer
+pub fn good_block_length(block: &[u8]) -> Result<usize, Refusal>
     ensures { told result ≡ length_in (good_block_length block.now) }
 {
     let len = block.len();
     if 255 < len {
-        return WriteAnswer::Refused(Refusal::WrongFormat { good: 0 });
+        return Err(Refusal::WrongFormat { good: 0 });
     }
-    WriteAnswer::Accepted(len)
+    Ok(len)
 }
 
-// A block length, held where it stands: no byte of it is copied.
+// A block length, held where it stands: no byte of it is copied. It has a type of its own, as a name has: docs/STATEMENTS.md names both,
+// each has its own check, and what they share is `part_at` and `kept_after`.
 #[derive(Clone, Copy)]
 pub struct SentDataPayload<'a> {
     max_number_of_block_length: &'a [u8],
@@ -59,7 +54,10 @@ impl<'a> SentDataPayload<'a> {
         ensures { Kept good_block_length max_number_of_block_length.entry result.max_number_of_block_length }
     {
         SentDataPayload {
-            max_number_of_block_length: kept_block_length(max_number_of_block_length),
+            max_number_of_block_length: kept_after(
+                good_block_length(max_number_of_block_length),
+                max_number_of_block_length,
+            ),
         }
     }
 
@@ -78,35 +76,9 @@ impl<'a> SentDataPayload<'a> {
     }
 }
 
-// The very slice where it is a good block length; else the empty part at its start.
-fn kept_block_length(block: &[u8]) -> &[u8]
-    ensures { Kept good_block_length block.entry result }
-{
-    match good_block_length(block) {
-        WriteAnswer::Accepted(_) => block,
-        WriteAnswer::Refused(_) => &block[..0],
-    }
-}
-
-// The record of the block length at a place that was read from the message.
-fn sent_data_at<'a>(message: &'a [u8], place: Place) -> SentDataPayload<'a>
-    ensures { IsPart message.entry place.start place.len result.max_number_of_block_length }
-{
-    SentDataPayload {
-        max_number_of_block_length: part_at(message, place),
-    }
-}
-
-// What that record hands back, for callers that keep no record.
-pub(crate) fn block_length_of(message: &[u8], place: Place) -> &[u8]
-    ensures { IsPart message.entry place.start place.len result }
-{
-    sent_data_at(message, place).max_number_of_block_length()
-}
-
 // The block length of a response; of a refused one, and of one that has none, the empty part at the buffer's start.
 pub fn response_block_length(message: &[u8]) -> &[u8]
     ensures { IsBlockLengthOf message.entry result }
 {
-    block_length_of(message, block_length_place(message).or_empty())
+    part_at(message, or_empty(block_length_place(message)))
 }

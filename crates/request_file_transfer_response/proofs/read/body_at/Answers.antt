@@ -1,64 +1,39 @@
--- `request_file_transfer_response::read::body_at` meets its contract: nothing, or block length, format byte and more, one after the other; a field's refusal is the answer's.
-use mathlib.Core.Path.{ap, subst}
+-- `request_file_transfer_response::read::body_at` meets its contract: nothing, so that all is 0 or empty, or block length, format byte and more, one after the other; a field's refusal is the answer's.
+use mathlib.Core.Path.{refl}
 use mathlib.Core.List.{[]}
 use native.Mathlib.Omega.{arith}
 use Rattle.paper.specs.Field.{block_length, byte}
 use Rattle.paper.proofs.Places.{on, off}
-use Rattle.wire.specs.Number.{seen_byte, ByteRight}
-use Rattle.wire.specs.Place.{seen_place, CountedRight}
-use Rattle.wire.specs.declared.number.ByteAnswer.{ByteAnswer}
-use Rattle.wire.specs.declared.place.PlaceAnswer.{PlaceAnswer}
-use Rattle.wire.proofs.Left.{left}
-use Rattle.request_file_transfer_response.specs.Layout.{more_of}
-use Rattle.request_file_transfer_response.specs.Reading.{seen_more, MoreRight}
+use Rattle.request_file_transfer_response.proofs.Cases.{leaves, no_sizes}
 use Rattle.request_file_transfer_response.proofs.read.body_at.Goals as goal
 
 pub returns-in_default : goal.returns-in_default
-returns-in_default c = rw c.in_default.is c.ended_at.ensures
-
-pub returns-in_default-b : goal.returns-in_default-b
-returns-in_default-b c =
-    rw c.in-BlockAndFormat.is
+returns-in_default c =
+    rw c.in_default.is
     (λ k. record {
-      paper = off block_length _ _ (left c.counted_at-b.ensures (ap seen_place c.in_default-b.is) c.refusal.ensures);
-      place = tt;
+      paper = rw c.from.ensures (no_sizes k _ 0 c.without_sizes.result c.without_sizes.ensures);
+      place = record { begins = refl; ends = omega arith; halves = (omega arith, omega arith); within = omega arith };
     })
 
-pub returns-in_default-f : goal.returns-in_default-f
-returns-in_default-f c =
-    let block : CountedRight 1 c.args.s.now c.args.at (PlaceAnswer.Accepted c.in-Accepted.block c.in-Accepted.after_block) = subst (CountedRight 1 _ _) c.in-Accepted.is c.counted_at-b.ensures in
-    rw c.in-BlockAndFormat.is
-    (λ k. record {
-      paper = on block_length _ _ block.paper (off byte _ _ (left c.byte_at-f.ensures (ap seen_byte c.in_default-f.is) c.refusal-in_default-f.ensures));
-      place = tt;
-    })
+pub returns-in_err-block : goal.returns-in_err-block
+returns-in_err-block c = rw c.in-Some.is (λ k. leaves _ _ c.from_residual.ensures.1 (off block_length _ _ c.in_err-block.ensures.paper))
 
-pub more_at-m-requires : goal.more_at-m-requires
-more_at-m-requires c =
-    let format : ByteRight c.args.s.now c.in-Accepted.after_block (ByteAnswer.Accepted c.in-Accepted-f.format c.in-Accepted-f.next) = subst (ByteRight _ _) c.in-Accepted-f.is c.byte_at-f.ensures in
-    format.place.1
+pub returns-in_err-format : goal.returns-in_err-format
+returns-in_err-format c =
+    rw c.in-Some.is
+    (λ k. leaves _ _ c.from_residual-in_err-format.ensures.1 (on block_length _ _ c.in_ok-block.ensures.paper (off byte _ _ c.in_err-format.ensures.paper)))
 
-pub returns-in_default-m : goal.returns-in_default-m
-returns-in_default-m c =
-    let block : CountedRight 1 c.args.s.now c.args.at (PlaceAnswer.Accepted c.in-Accepted.block c.in-Accepted.after_block) = subst (CountedRight 1 _ _) c.in-Accepted.is c.counted_at-b.ensures in
-    let format : ByteRight c.args.s.now c.in-Accepted.after_block (ByteAnswer.Accepted c.in-Accepted-f.format c.in-Accepted-f.next) = subst (ByteRight _ _) c.in-Accepted-f.is c.byte_at-f.ensures in
-    rw c.in-BlockAndFormat.is
-    (λ k. record {
-      paper =
-          on block_length _ _ block.paper
-          (on byte _ _ format.paper
-          (left (c.more_at-m.ensures k _ _) (ap seen_more c.in_default-m.is) c.refusal-in_default-m.ensures));
-      place = tt;
-    })
+pub returns-in_err-more : goal.returns-in_err-more
+returns-in_err-more c =
+    rw c.in-Some.is
+    (λ k. leaves _ _ c.from_residual-in_err-more.ensures.1
+    (on block_length _ _ c.in_ok-block.ensures.paper (on byte _ _ c.in_ok-format.ensures.paper (c.in_err-more.ensures k _ _).paper)))
 
 pub returns : goal.returns
 returns c =
-    let block : CountedRight 1 c.args.s.now c.args.at (PlaceAnswer.Accepted c.in-Accepted.block c.in-Accepted.after_block) = subst (CountedRight 1 _ _) c.in-Accepted.is c.counted_at-b.ensures in
-    let format : ByteRight c.args.s.now c.in-Accepted.after_block (ByteAnswer.Accepted c.in-Accepted-f.format c.in-Accepted-f.next) = subst (ByteRight _ _) c.in-Accepted-f.is c.byte_at-f.ensures in
-    let more = subst (MoreRight (more_of c.in-BlockAndFormat.last) _ _) c.in-Accepted-m.is c.more_at-m.ensures in
-    let (begins, ends, within) = block.place in
-    rw c.in-BlockAndFormat.is
+    let (begins, ends, within) = c.in_ok-block.ensures.place in
+    rw c.in-Some.is
     (λ k. record {
-      paper = rw c.from_byte.ensures (on block_length _ _ block.paper (on byte _ _ format.paper (more k _ _).paper));
-      place = let p = (more k [] 0).place in record { begins = begins; ends = omega arith; halves = p.0; within = p.1 };
+      paper = rw c.from-2.ensures (on block_length _ _ c.in_ok-block.ensures.paper (on byte _ _ c.in_ok-format.ensures.paper (c.in_ok-more.ensures k _ _).paper));
+      place = let p = (c.in_ok-more.ensures k [] 0).place in record { begins = begins; ends = omega arith; halves = p.0; within = p.1 };
     })

@@ -1,20 +1,14 @@
 -- `request_file_transfer_response::read::file_size_at` meets its contract: the group's refusal is the answer's, and its two sizes are all that is told.
-use mathlib.Core.Path.{refl, ap, subst}
+use mathlib.Core.Path.{refl}
 use Rattle.paper.specs.Answer.{give}
 use Rattle.paper.specs.Field.{size_group}
 use Rattle.paper.proofs.Places.{on, off}
-use Rattle.wire.specs.Group.{seen_two_sizes, TwoSizesRight}
-use Rattle.wire.proofs.Left.{left}
+use Rattle.request_file_transfer_response.proofs.Cases.{leaves}
 use Rattle.request_file_transfer_response.proofs.read.file_size_at.Goals as goal
 
-pub returns-in_default : goal.returns-in_default
-returns-in_default c k b f = record {
-  paper = off (size_group 2 2) _ _ (left c.two_sizes_at-g.ensures (ap seen_two_sizes c.in_default.is) c.refusal.ensures);
-  place = tt;
-}
+pub returns-in_err-sizes : goal.returns-in_err-sizes
+returns-in_err-sizes c k b f = leaves _ _ c.from_residual.ensures.1 (off (size_group 2 2) _ _ c.in_err-sizes.ensures.paper)
 
 pub returns : goal.returns
 unfolding give
-returns c k b f =
-    let g = subst (TwoSizesRight 2 _ _) c.in-Accepted.is c.two_sizes_at-g.ensures in
-    record { paper = on (size_group 2 2) _ _ g.paper refl; place = ((g.place.0, g.place.1), g.place.2) }
+returns c k b f = let g = c.in_ok-sizes.ensures in record { paper = on (size_group 2 2) _ _ g.paper refl; place = ((g.place.0, g.place.1), g.place.2) }
