@@ -1,4 +1,4 @@
--- No second answer meets the contract of `start`, `step` or `run`: the refusal, the place and the state are settled.
+-- No second answer meets the contract of the conversion of a record, of `start`, `step` or `run`: the refusal, the place and the state are settled.
 -- Assumes nothing.
 use Rattle.std.proofs.Common.{◌≡◌, ℕ, sym, refl, ap, ◌∙◌, ap₂, Option, None, Some, Result, Ok, Err}
 use Rattle.paper.specs.Answer.{Answer, accepted, refused}
@@ -7,16 +7,25 @@ use Rattle.paper.specs.Replay.{none, counter, closed, opened, ran, stopped}
 use Rattle.wire.specs.declared.refusal.Refusal.{Refusal}
 use Rattle.wire.proofs.Refusals.{refusal_back, refusal-back}
 use Rattle.wire.proofs.Unique.{Determined}
-use Rattle.replay.specs.Replay.{last_of, transfer_of, state_of, step_said, ended_said}
+use Rattle.replay.specs.Replay.{last_of, transfer_of, state_of, meant, step_said, ended_said}
 use Rattle.replay.specs.declared.Transfer.{Transfer}
 use Rattle.replay.specs.declared.State.{State}
+use Rattle.replay.specs.declared.LogRecord.{LogRecord}
 use Rattle.replay.specs.declared.Stopped.{Stopped}
+use Rattle.replay.proofs.LogRecordFromArrayU84 as record_from_bytes
 use Rattle.replay.proofs.State.start.Kinds as start-kinds
 use Rattle.replay.proofs.State.start.Reads as start
 use Rattle.replay.proofs.step.Kinds as step-kinds
 use Rattle.replay.proofs.step.Reads as step
 use Rattle.replay.proofs.run.Kinds as run-kinds
 use Rattle.replay.proofs.run.Reads as run
+
+-- the record that the paper's stands for; each of them is one
+abbrev record_back : paper.LogRecord → LogRecord
+record_back r = record { service = r.service; kind_or_counter = r.kind_or_counter; payload = r.payload }
+
+pub record_from_determined : Determined 0 record_from_bytes.from.Kinds.ps record_from_bytes.from.Kinds.r record_from_bytes.from.Reads.Post
+record_from_determined κs a x y r₁ r₂ p q = ap record_back (p.right ∙ sym q.right)
 
 -- the state that the paper's stands for
 abbrev pub last_back : paper.Last → Option ℕ
