@@ -1,36 +1,29 @@
 -- Demand 3 of the calls of this crate: what `read_request` and `rewrite_request` promise of requests, taken together.
 -- Assumes nothing.
 use Prim.Native.Nat.{ℕ}
-use mathlib.Core.Path.{◌≡◌, refl, sym, ap, ◌∙◌}
+use mathlib.Core.Path.{◌≡◌, sym, ap, ◌∙◌}
 use mathlib.Core.List.{List}
 use mathlib.Core.Logic.Iff
 use Rattle.paper.specs.Request.{Request, read_request, rewrite_request}
 use Rattle.paper.proofs.Request.{request_demand_3}
-use Rattle.wire.specs.Reading.{Seen, found, stopped}
+use Rattle.wire.specs.Reading.{Seen}
 use Rattle.file_operation.specs.Rewriting.{Rewrote}
 use Rattle.file_operation.specs.Calls.{ReadCall, RewriteCall, Demand3}
-use Rattle.file_operation.specs.declared.rewrite.RewriteAnswer.{RewriteAnswer}
 use Rattle.file_operation.proofs.Calls.{read_calls, rewrite_calls}
 use Rattle.file_operation.proofs.Demand.{Keeps, calls_demand_3}
 use Rattle.file_operation.proofs.Unique.{kind_back, kind-back, format_of, sizes_back, sizes-back}
-use Rattle.request_file_transfer.specs.Reading.{seen_request, meant, Placed, SeenRight}
+use Rattle.request_file_transfer.specs.Reading.{meant, Placed, RequestRight}
 use Rattle.request_file_transfer.specs.Same.{Same}
 use Rattle.request_file_transfer.specs.declared.read.RequestFileTransferRequest.{RequestFileTransferRequest}
-use Rattle.request_file_transfer.proofs.Unique.{request_answer_of}
 use Rattle.request_file_transfer.proofs.read.read_request.Reads as read-request
 use Rattle.request_file_transfer.proofs.rewrite.rewrite_request.Reads as rewrite-request
 
 -- the calls of `read_request` and of `rewrite_request` that kept their contracts
 abbrev pub ReadRequestCall : List ℕ → Seen RequestFileTransferRequest → Type 0
-ReadRequestCall = ReadCall read-request.Post seen_request
+ReadRequestCall = ReadCall read-request.Post
 
-abbrev pub RewriteRequestCall : List ℕ → List ℕ → RewriteAnswer → List ℕ → Type 0
+abbrev pub RewriteRequestCall : List ℕ → List ℕ → Seen ℕ → List ℕ → Type 0
 RewriteRequestCall = RewriteCall rewrite-request.Post
-
--- what was answered is what was seen
-seen_again : (x : Seen RequestFileTransferRequest) → seen_request (request_answer_of x) ≡ x
-seen_again (found q tail) = refl
-seen_again (stopped e) = refl
 
 -- two requests that were read mean the same on paper exactly if they say the same, field by field
 to_paper : (s t : List ℕ) (q p : RequestFileTransferRequest) → Same s q t p → meant s q ≡ meant t p
@@ -51,7 +44,7 @@ pub requests-keep : Keeps read_request rewrite_request meant Placed ReadRequestC
 requests-keep = record {
   paper = request_demand_3;
   within = λ s q n h. h.within;
-  reads = read_calls SeenRight (λ κs a r x. Iff.rfl) request_answer_of seen_again;
+  reads = read_calls RequestRight (λ κs a r x. Iff.rfl);
   rewrites = rewrite_calls (Rewrote rewrite_request) (λ κs a r x. Iff.rfl);
   same = λ s t q p n m h k. (to_paper s t q p, from_paper s t q p n m h k);
 }

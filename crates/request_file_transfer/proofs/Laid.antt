@@ -5,6 +5,7 @@ use Prim.Native.Nat.{ℕ, ◌+◌, ◌≤◌, ◌<◌}
 use mathlib.Core.List.{List, [], ◌∷◌, ◌++◌}
 use native.Mathlib.Omega.{arith}
 use lib.ListN.{length, length-append}
+use Rattle.std.specs.Prelude.{Result, Ok, Err}
 use Rattle.paper.specs.Answer.{accepted, refused, ◌then◌}
 use Rattle.paper.specs.Kind.{mode_of}
 use Rattle.paper.specs.Sizes.{width}
@@ -14,7 +15,6 @@ use Rattle.paper.proofs.Request.{good-name}
 use Rattle.wire.specs.Refusals.{row}
 use Rattle.wire.specs.Writing.{Wrote, Filled, counted_run, sizes_out}
 use Rattle.wire.specs.declared.refusal.Refusal.{Refusal}
-use Rattle.wire.specs.declared.write.WriteAnswer.{WriteAnswer}
 use Rattle.wire.proofs.FieldBytes.{length_counted, counted-good}
 use Rattle.wire.proofs.Over.{rest, back, filled_more, filled_as}
 use Rattle.wire.proofs.Writes.{refuses, writes, passed, filled}
@@ -78,7 +78,7 @@ module _ (kind : FileOperationMode) (name : List ℕ) (size : SizePayload) where
 
   module _ (f : ℕ) where
     -- `good_name` refused: writing is refused alike
-    pub off : {old : List ℕ} (e : Refusal) → refused (row e) ≡ length_in (good_name name) → Wrote (write_request (asked f)) old (WriteAnswer.Refused e) old
+    pub off : {old : List ℕ} (e : Refusal) → refused (row e) ≡ length_in (good_name name) → Wrote (write_request (asked f)) old (Err e) old
     off e said = same-refusal (write_request (asked f)) (refused_then (good_name name) _ said ∙ sym (length_is f))
 
     -- a good name, and so many bytes
@@ -88,13 +88,13 @@ module _ (kind : FileOperationMode) (name : List ℕ) (size : SizePayload) where
 
       module _ {old : List ℕ} where
         -- too little room
-        pub no_room_lem : length old < n → Wrote (write_request (asked f)) old (WriteAnswer.Refused (Refusal.NoRoom n (length old))) old
+        pub no_room_lem : length old < n → Wrote (write_request (asked f)) old (Err (Refusal.NoRoom n (length old))) old
         no_room_lem h = passed (good f is) (refuses n as_long h)
 
         -- each field in the room that begins where the previous one ended
-        pub laid_out_lem : {x y z : List ℕ} {p q : WriteAnswer} {h : AfterName} → n ≤ length old → h ≡ after_name (kind_of kind)
+        pub laid_out_lem : {x y z : List ℕ} {p q : Result ℕ Refusal} {h : AfterName} → n ≤ length old → h ≡ after_name (kind_of kind)
             → Wrote (accepted (mode_of (kind_of kind) ∷ [])) old p x → Wrote (counted_run 2 65535 name) (rest 1 x) q y → Filled (rest_bytes h f size) (rest (3 + length name) (back 1 x y)) z
-            → Wrote (write_request (asked f)) old (WriteAnswer.Accepted n) (back (3 + length name) (back 1 x y) z)
+            → Wrote (write_request (asked f)) old (Ok n) (back (3 + length name) (back 1 x y) z)
         laid_out_lem room table first second third =
             passed (good f is)
             (writes n as_long room

@@ -10,23 +10,21 @@ use denote.Triple.Clauses.{AtExit}
 use borrow.Fn.Kinds.{Dens, ended_of}
 use borrow.Fn.World.{ArgsD}
 use lib.ListN.{length}
+use Rattle.std.specs.Prelude.{Result}
 use Rattle.paper.specs.Request as paper
 use Rattle.paper.specs.Request.{Request, format_and_sizes, nothing, format_only}
-use Rattle.wire.specs.Reading.{Seen, found, stopped}
-use Rattle.wire.specs.Place.{seen_place}
-use Rattle.wire.specs.declared.write.WriteAnswer.{WriteAnswer}
-use Rattle.wire.proofs.Unique.{Determined, Settles, once, place_of, place_back, place_answer_of, place-again}
+use Rattle.wire.specs.Reading.{Seen}
+use Rattle.wire.specs.declared.refusal.Refusal.{Refusal}
+use Rattle.wire.proofs.Unique.{Determined, Settles, once, place_of, place_back}
 use Rattle.wire.proofs.UniqueHeld.{Alike, alike, Settled, settled}
 use Rattle.wire.proofs.UniqueWriting.{answer_back, answer_back_lem, wrote_once}
-use Rattle.file_operation.specs.declared.rewrite.RewriteAnswer.{RewriteAnswer}
 use Rattle.file_operation.proofs.Unique.{kind_back, kind-back, format_of, sizes_back, sizes-back, part_back, part-back}
 use Rattle.file_operation.proofs.UniqueRewriting.{rewrote_once}
 use Rattle.request_file_transfer.specs.Layout.{layout_of}
-use Rattle.request_file_transfer.specs.Reading.{seen_request, meant, Placed}
+use Rattle.request_file_transfer.specs.Reading.{meant, Placed}
 use Rattle.request_file_transfer.specs.declared.layout.AfterName.{AfterName}
 use Rattle.request_file_transfer.specs.declared.layout.AfterName.TheVariants.{FormatAndSizes, Nothing, FormatOnly}
 use Rattle.request_file_transfer.specs.declared.read.RequestFileTransferRequest.{RequestFileTransferRequest}
-use Rattle.request_file_transfer.specs.declared.read.RequestAnswer.{RequestAnswer}
 use Rattle.request_file_transfer.proofs.layout.after_name.Kinds as after-name-kinds
 use Rattle.request_file_transfer.proofs.layout.after_name.Reads as after-name
 use Rattle.request_file_transfer.proofs.name.name_at.Kinds as name-at-kinds
@@ -43,8 +41,6 @@ use Rattle.request_file_transfer.proofs.name_payload.request_name.Kinds as reque
 use Rattle.request_file_transfer.proofs.name_payload.request_name.Reads as request-name
 use Rattle.request_file_transfer.proofs.read.RequestFileTransferRequest.mode_of_operation.Kinds as mode-kinds
 use Rattle.request_file_transfer.proofs.read.RequestFileTransferRequest.mode_of_operation.Reads as mode
-use Rattle.request_file_transfer.proofs.read.RequestAnswer.refusal.Kinds as refusal-kinds
-use Rattle.request_file_transfer.proofs.read.RequestAnswer.refusal.Reads as refusal
 use Rattle.request_file_transfer.proofs.read.read_request.Kinds as read-request-kinds
 use Rattle.request_file_transfer.proofs.read.read_request.Reads as read-request
 use Rattle.request_file_transfer.proofs.write.needed.Kinds as needed-kinds
@@ -76,9 +72,9 @@ after_name_determined κs a x y r₁ r₂ p q = sym (layout-back r₁) ∙ ap la
 -- ---- names
 -- the place of a name, or the refusal
 pub name_at_determined : Determined 1 name-at-kinds.ps name-at-kinds.r name-at.Post
-name_at_determined κs a x y =
+name_at_determined κs a x y r₁ r₂ =
     let (s, (at, _)) = a in
-    once (λ b. place_of (at + 2) (length b)) (λ p next h. (place_back s.now p h.0 (omega (arith, h.1, h.2)), h.2)) seen_place place_answer_of place-again
+    once (λ b. place_of (at + 2) (length b)) (λ p next h. (place_back s.now p h.0 (omega (arith, h.1, h.2)), h.2))
 
 -- the length of a good name, or the refusal
 pub good_name_determined : Determined 1 good-name-kinds.ps good-name-kinds.r good-name.Post
@@ -126,25 +122,13 @@ request-back s q tail h = (
   h.within,
 )
 
-abbrev pub request_answer_of : Seen RequestFileTransferRequest → RequestAnswer
-request_answer_of (found q tail) = RequestAnswer.Accepted q tail
-request_answer_of (stopped e) = RequestAnswer.Refused e
-
-request-again : (r : RequestAnswer) → request_answer_of (seen_request r) ≡ r
-request-again (RequestAnswer.Accepted q tail) = refl
-request-again (RequestAnswer.Refused e) = refl
-
 -- the request and where the tail begins, or the refusal
 pub read_request_determined : Determined 1 read-request-kinds.ps read-request-kinds.r read-request.Post
-read_request_determined κs a x y = once request_back (request-back a.0.now) seen_request request_answer_of request-again
+read_request_determined κs a x y r₁ r₂ = once request_back (request-back a.0.now)
 
 -- what the request asks for
 pub mode_of_operation_determined : Determined 0 mode-kinds.ps mode-kinds.r mode.Post
 mode_of_operation_determined κs a x y r₁ r₂ p q = p ∙ sym q
-
--- the refusal in an answer
-pub request_refusal_determined : Determined 0 refusal-kinds.ps refusal-kinds.r refusal.Post
-request_refusal_determined κs a x y r₁ r₂ p q = p ∙ sym q
 
 -- ---- writing
 -- how many bytes a request takes, or the refusal
@@ -152,12 +136,12 @@ pub needed_determined : Determined 1 needed-kinds.ps needed-kinds.r needed.Post
 needed_determined κs a x y r₁ r₂ p q = sym (answer_back_lem r₁) ∙ ap answer_back (p ∙ sym q) ∙ answer_back_lem r₂
 
 -- the answer, and what the buffer, the fifth parameter, holds at the exit
-pub write_request_determined : (κs : Lfts 2) (a : ArgsD write-request.signature κs) (x y : AtExit (ended_of 2 write-request-kinds.ps write-request-kinds.r) κs) (r s : WriteAnswer)
+pub write_request_determined : (κs : Lfts 2) (a : ArgsD write-request.signature κs) (x y : AtExit (ended_of 2 write-request-kinds.ps write-request-kinds.r) κs) (r s : Result ℕ Refusal)
     → write-request-reads.Post κs a r x → write-request-reads.Post κs a s y → (r ≡ s) × (x.1.1.1.1.0.now ≡ y.1.1.1.1.0.now)
 write_request_determined κs a x y r s p q = wrote_once p q
 
 -- ---- rewriting
 -- the answer, and what the buffer, the second parameter, holds at the exit
-pub rewrite_request_determined : (κs : Lfts 2) (a : ArgsD rewrite-request.signature κs) (x y : AtExit (ended_of 2 rewrite-request-kinds.ps rewrite-request-kinds.r) κs) (r s : RewriteAnswer)
+pub rewrite_request_determined : (κs : Lfts 2) (a : ArgsD rewrite-request.signature κs) (x y : AtExit (ended_of 2 rewrite-request-kinds.ps rewrite-request-kinds.r) κs) (r s : Seen ℕ)
     → rewrite-request-reads.Post κs a r x → rewrite-request-reads.Post κs a s y → (r ≡ s) × (x.1.0.now ≡ y.1.0.now)
 rewrite_request_determined κs a x y r s p q = rewrote_once p q

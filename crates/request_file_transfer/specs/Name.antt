@@ -4,15 +4,14 @@ use Rattle.std.specs.Borrow.{Bor}
 use Rattle.paper.specs.Answer.{Answer, accepted, refused, Read, ◌leaving◌}
 use Rattle.paper.specs.Field.{name}
 use Rattle.paper.specs.Request.{Request, read_request}
-use Rattle.wire.specs.Reading.{Right}
-use Rattle.wire.specs.Place.{seen_place, bytes_at, CountedPlace}
+use Rattle.wire.specs.Reading.{Seen, Right}
+use Rattle.wire.specs.Place.{bytes_at, CountedPlace}
 use Rattle.wire.specs.declared.place.Place.{Place}
-use Rattle.wire.specs.declared.place.PlaceAnswer.{PlaceAnswer}
 use Rattle.file_operation.specs.Part.{IsPartIn}
 
 -- the place begins right after the two bytes of its length
-abbrev pub NameRight : List ℕ → ℕ → PlaceAnswer → Type 0
-NameRight s at r = Right Place (List ℕ) (bytes_at s) name (CountedPlace 2 s at) s at (seen_place r)
+abbrev pub NameRight : List ℕ → ℕ → Seen Place → Type 0
+NameRight s at r = Right Place (List ℕ) (bytes_at s) name (CountedPlace 2 s at) s at r
 
 -- of what was read: the place of the name, after the mode and the two bytes of its length, or the refusal
 abbrev pub place_in : Answer (Read Request) → Answer Place

@@ -3,36 +3,26 @@ use Rattle.std.specs.Prelude.{◌≡◌, ℕ, ◌+◌, ◌^◌, ◌≤◌, ◌<�
 use Rattle.paper.specs.Kind.{Kind}
 use Rattle.paper.specs.Request.{Request, request, AfterName, read_after_name, read_request}
 use Rattle.wire.specs.Size.{value}
-use Rattle.wire.specs.Reading.{Seen, found, stopped, Right}
+use Rattle.wire.specs.Reading.{Seen, Right}
 use Rattle.wire.specs.Place.{bytes_at}
 use Rattle.file_operation.specs.Mode.{kind_of}
 use Rattle.file_operation.specs.declared.payload.SizePayload.{SizePayload}
 use Rattle.request_file_transfer.specs.declared.read.Rest.{Rest}
-use Rattle.request_file_transfer.specs.declared.read.RestAnswer.{RestAnswer}
 use Rattle.request_file_transfer.specs.declared.read.RequestFileTransferRequest.{RequestFileTransferRequest}
-use Rattle.request_file_transfer.specs.declared.read.RequestAnswer.{RequestAnswer}
 
 -- the low halves are halves
 abbrev pub Halves : SizePayload → Type 0
 Halves x = (x.file_size_uncompressed.low < 2 ^ 64) × (x.file_size_compressed.low < 2 ^ 64)
 
 -- ---- what stands after the name, in a request of kind k and name n
-abbrev pub seen_rest : RestAnswer → Seen Rest
-seen_rest (RestAnswer.Accepted x next) = found x next
-seen_rest (RestAnswer.Refused e) = stopped e
-
 abbrev pub with_rest : Kind → List ℕ → Rest → Request
 with_rest k n x = request k n x.format.0 (value x.size.file_size_uncompressed) (value x.size.file_size_compressed)
 
-abbrev pub RestRight : AfterName → List ℕ → ℕ → RestAnswer → Type 0
+abbrev pub RestRight : AfterName → List ℕ → ℕ → Seen Rest → Type 0
 RestRight h s at r =
-    (k : Kind) (n : List ℕ) → Right Rest Request (with_rest k n) (read_after_name k n h) (λ (x : Rest) (next : ℕ). Halves x.size × (next ≤ length s)) s at (seen_rest r)
+    (k : Kind) (n : List ℕ) → Right Rest Request (with_rest k n) (read_after_name k n h) (λ (x : Rest) (next : ℕ). Halves x.size × (next ≤ length s)) s at r
 
 -- ---- a request of the message s
-abbrev pub seen_request : RequestAnswer → Seen RequestFileTransferRequest
-seen_request (RequestAnswer.Accepted q tail) = found q tail
-seen_request (RequestAnswer.Refused e) = stopped e
-
 -- what it means: its kind, the bytes at the name's place, the format byte, the numbers of its sizes
 abbrev pub meant : List ℕ → RequestFileTransferRequest → Request
 meant s q =
@@ -46,8 +36,5 @@ pub record Placed (s : List ℕ) (q : RequestFileTransferRequest) (tail : ℕ) :
   pub within : tail ≤ length s
 
 -- the answer is the paper's
-abbrev pub SeenRight : List ℕ → Seen RequestFileTransferRequest → Type 0
-SeenRight s x = Right RequestFileTransferRequest Request (meant s) read_request (Placed s) s 0 x
-
-abbrev pub RequestRight : List ℕ → RequestAnswer → Type 0
-RequestRight s r = SeenRight s (seen_request r)
+abbrev pub RequestRight : List ℕ → Seen RequestFileTransferRequest → Type 0
+RequestRight s r = Right RequestFileTransferRequest Request (meant s) read_request (Placed s) s 0 r

@@ -6,7 +6,7 @@ ghost use Rattle.request_file_transfer.specs.Layout.{layout_of};
 
 use file_operation::mode::FileOperationMode;
 
-#[derive(Clone, Copy)]
+#[derive(Clone, Copy, Debug, PartialEq, Eq)]
 pub enum AfterName {
     FormatAndSizes,
     Nothing,
@@ -17,11 +17,10 @@ pub fn after_name(kind: FileOperationMode) -> AfterName
     ensures { layout_of result ≡ after_name (kind_of kind) }
 {
     match kind {
-        FileOperationMode::AddFile => AfterName::FormatAndSizes,
-        FileOperationMode::DeleteFile => AfterName::Nothing,
-        FileOperationMode::ReplaceFile => AfterName::FormatAndSizes,
+        FileOperationMode::AddFile
+        | FileOperationMode::ReplaceFile
+        | FileOperationMode::ResumeFile => AfterName::FormatAndSizes,
+        FileOperationMode::DeleteFile | FileOperationMode::ReadDir => AfterName::Nothing,
         FileOperationMode::ReadFile => AfterName::FormatOnly,
-        FileOperationMode::ReadDir => AfterName::Nothing,
-        FileOperationMode::ResumeFile => AfterName::FormatAndSizes,
     }
 }

@@ -6,39 +6,35 @@ ghost use Rattle.file_operation.specs.Writing.{length_in};
 ghost use Rattle.request_file_transfer.specs.Name.{NameRight};
 
 use utf8::{is_utf8, valid_up_to};
-use wire::place::{PlaceAnswer, counted_at, part_at};
+use wire::place::{Place, counted_at, part_at};
 use wire::prefix::Prefix;
 use wire::refusal::Refusal;
-use wire::write::WriteAnswer;
 
 // All of its bytes must be there, and then they must be UTF-8: else refusal 2 carries the length of their longest beginning that is.
 // That length is looked for only then, so that a good name is passed once.
-pub fn name_at(s: &[u8], at: usize) -> PlaceAnswer
+pub fn name_at(s: &[u8], at: usize) -> Result<(Place, usize), Refusal>
     ensures { NameRight s.now at result }
 {
-    let p = counted_at(Prefix::Two, s, at);
-    let PlaceAnswer::Accepted(place, next) = p else {
-        return PlaceAnswer::Refused(p.refusal());
-    };
+    let (place, next) = counted_at(Prefix::Two, s, at)?;
     let name = part_at(s, place);
     if is_utf8(name) {
-        return PlaceAnswer::Accepted(place, next);
+        return Ok((place, next));
     }
-    let good = valid_up_to(name);
-    PlaceAnswer::Refused(Refusal::WrongFormat { good })
+    let longest = valid_up_to(name);
+    Err(Refusal::WrongFormat { good: longest })
 }
 
 // The checks of a name when writing: how many bytes it has, or refusal 2 where it is over 65,535 bytes, with 0, or not UTF-8, with the length of its longest
 // beginning that is.
-pub fn good_name(name: &[u8]) -> WriteAnswer
+pub fn good_name(name: &[u8]) -> Result<usize, Refusal>
     ensures { told result ≡ length_in (good_name name.now) }
 {
     if 65535 < name.len() {
-        return WriteAnswer::Refused(Refusal::WrongFormat { good: 0 });
+        return Err(Refusal::WrongFormat { good: 0 });
     }
     if is_utf8(name) {
-        return WriteAnswer::Accepted(name.len());
+        return Ok(name.len());
     }
     let good = valid_up_to(name);
-    WriteAnswer::Refused(Refusal::WrongFormat { good })
+    Err(Refusal::WrongFormat { good })
 }

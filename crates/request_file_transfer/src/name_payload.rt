@@ -2,26 +2,21 @@
 // An enum cannot hold it, so beside each of its two makers stands the call that says whether there is a name: `name_place` beside `of_request`, `good_name` beside `new`.
 ghost use Rattle.std.specs.Prelude.{◌≡◌};
 ghost use Rattle.paper.specs.Request.{good_name};
-ghost use Rattle.wire.specs.Place.{IsPart};
 ghost use Rattle.file_operation.specs.Part.{part_said, Kept};
 ghost use Rattle.request_file_transfer.specs.Name.{name_place, IsNameOf};
 
 use crate::name::good_name;
-use crate::read::{RequestAnswer, read_request};
-use file_operation::part::PartAnswer;
+use crate::read::read_request;
+use file_operation::part::{kept_after, or_empty};
 use wire::place::{Place, part_at};
-use wire::write::WriteAnswer;
+use wire::refusal::Refusal;
 
 // Where the name of a request stands: from 3 on, empty or not. Of a request that is refused, for whatever reason, the refusal.
-pub fn name_place(message: &[u8]) -> PartAnswer
+pub fn name_place(message: &[u8]) -> Result<Place, Refusal>
     ensures { part_said result ≡ name_place message.now }
 {
-    let a = read_request(message);
-    let RequestAnswer::Accepted(q, _) = a else {
-        return PartAnswer::Refused(a.refusal());
-    };
-    let place = q.file_path_and_name;
-    PartAnswer::At(place)
+    let (q, _) = read_request(message)?;
+    Ok(q.file_path_and_name)
 }
 
 // A file's path and name, held where it stands: no byte of it is copied.
@@ -45,7 +40,7 @@ impl<'a> NamePayload<'a> {
         ensures { Kept good_name file_path_and_name.entry result.file_path_and_name }
     {
         NamePayload {
-            file_path_and_name: kept_name(file_path_and_name),
+            file_path_and_name: kept_after(good_name(file_path_and_name), file_path_and_name),
         }
     }
 
@@ -64,35 +59,9 @@ impl<'a> NamePayload<'a> {
     }
 }
 
-// The very slice where it is a good name; else the empty part at its start.
-fn kept_name(bytes: &[u8]) -> &[u8]
-    ensures { Kept good_name bytes.entry result }
-{
-    match good_name(bytes) {
-        WriteAnswer::Accepted(_) => bytes,
-        WriteAnswer::Refused(_) => &bytes[..0],
-    }
-}
-
-// The record of the name at a place that was read from the message.
-fn payload_at<'a>(message: &'a [u8], place: Place) -> NamePayload<'a>
-    ensures { IsPart message.entry place.start place.len result.file_path_and_name }
-{
-    NamePayload {
-        file_path_and_name: part_at(message, place),
-    }
-}
-
-// What that record hands back, for callers that keep no record.
-pub(crate) fn name_of(message: &[u8], place: Place) -> &[u8]
-    ensures { IsPart message.entry place.start place.len result }
-{
-    payload_at(message, place).file_path_and_name()
-}
-
 // The name of a request; of a refused one the empty part at the buffer's start.
 pub fn request_name(message: &[u8]) -> &[u8]
     ensures { IsNameOf message.entry result }
 {
-    name_of(message, name_place(message).or_empty())
+    part_at(message, or_empty(name_place(message)))
 }

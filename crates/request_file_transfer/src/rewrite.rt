@@ -2,23 +2,18 @@
 ghost use Rattle.paper.specs.Request.{rewrite_request};
 ghost use Rattle.file_operation.specs.Rewriting.{Rewrote};
 
-use crate::name_payload::name_of;
-use crate::read::{RequestAnswer, read_request};
+use crate::read::read_request;
 use crate::write::write_named;
-use file_operation::rewrite::{RewriteAnswer, beside_tail};
+use file_operation::rewrite::beside_tail;
+use wire::place::part_at;
+use wire::refusal::Refusal;
 
-// The reader's refusals, then 7. The tail is not written, and the name is checked once, by the reader.
-pub fn rewrite_request(s: &[u8], out: &mut [u8]) -> RewriteAnswer
+// How many bytes were written and where the tail of what was read begins. The reader's refusals, then 7. The tail is not written, and the name is checked once, by the reader.
+pub fn rewrite_request(s: &[u8], out: &mut [u8]) -> Result<(usize, usize), Refusal>
     ensures { Rewrote rewrite_request s.now out.old result out.new }
 {
-    let a = read_request(s);
-    let RequestAnswer::Accepted(q, tail) = a else {
-        return RewriteAnswer::Refused(a.refusal());
-    };
-    let kind = q.kind;
-    let place = q.file_path_and_name;
-    let format = q.data_format_identifier;
-    let size = q.size;
-    let w = write_named(kind, name_of(s, place), format, size, out);
+    let (q, tail) = read_request(s)?;
+    let name = part_at(s, q.file_path_and_name);
+    let w = write_named(q.kind, name, q.data_format_identifier, q.size, out);
     beside_tail(w, tail)
 }

@@ -14,7 +14,7 @@ use file_operation::payload::{DataFormatIdentifier, SizePayload};
 use wire::prefix::Prefix;
 use wire::refusal::Refusal;
 use wire::size::width_of_both;
-use wire::write::{WriteAnswer, put_byte, put_counted, put_two_sizes};
+use wire::write::{put_byte, put_counted, put_two_sizes};
 
 // How many bytes stand after the name.
 fn rest_len(layout: AfterName, size: SizePayload) -> usize
@@ -38,22 +38,23 @@ fn request_len(kind: FileOperationMode, name_len: usize, size: SizePayload) -> u
 }
 
 // How many bytes the request takes, without writing it; a name that is not good is refused.
-pub fn needed(kind: FileOperationMode, file_path_and_name: &[u8], size: SizePayload) -> WriteAnswer
+pub fn needed(
+    kind: FileOperationMode,
+    file_path_and_name: &[u8],
+    size: SizePayload,
+) -> Result<usize, Refusal>
     ensures { told result ≡ length_in (write_request (request_of kind file_path_and_name.now 0 size)) }
 {
-    let n = good_name(file_path_and_name);
-    let WriteAnswer::Accepted(name_len) = n else {
-        return n;
-    };
-    WriteAnswer::Accepted(request_len(kind, name_len, size))
+    let name_len = good_name(file_path_and_name)?;
+    Ok(request_len(kind, name_len, size))
 }
 
 fn put_format_and_sizes(format: DataFormatIdentifier, size: SizePayload, out: &mut [u8])
     requires { 1 ≤ length out.old }
     ensures { Filled (rest_bytes format_and_sizes format.0 size) out.old out.new }
 {
-    put_byte(format.value(), out);
-    put_two_sizes(
+    let _ = put_byte(format.into(), out);
+    let _ = put_two_sizes(
         Prefix::One,
         size.file_size_uncompressed,
         size.file_size_compressed,
@@ -69,7 +70,7 @@ fn put_rest(layout: AfterName, format: DataFormatIdentifier, size: SizePayload, 
         AfterName::FormatAndSizes => put_format_and_sizes(format, size, out),
         AfterName::Nothing => {}
         AfterName::FormatOnly => {
-            put_byte(format.value(), out);
+            let _ = put_byte(format.into(), out);
         }
     }
 }
@@ -81,28 +82,28 @@ pub(crate) fn write_named(
     data_format_identifier: DataFormatIdentifier,
     size: SizePayload,
     out: &mut [u8],
-) -> WriteAnswer
+) -> Result<usize, Refusal>
     requires { IsName file_path_and_name.now }
     ensures { Wrote (write_request (request_of kind file_path_and_name.now data_format_identifier.0 size)) out.old result out.new }
 {
     let message_len = request_len(kind, file_path_and_name.len(), size);
     let room = out.len();
     if room < message_len {
-        return WriteAnswer::Refused(Refusal::NoRoom {
+        return Err(Refusal::NoRoom {
             needed: message_len,
             room,
         });
     }
     // The room was checked first, so that a refused write changes nothing: now no field is refused, and the answers are dropped.
-    put_byte(kind.value(), out);
-    put_counted(Prefix::Two, file_path_and_name, &mut out[1..]);
+    let _ = put_byte(kind.into(), out);
+    let _ = put_counted(Prefix::Two, file_path_and_name, &mut out[1..]);
     put_rest(
         after_name(kind),
         data_format_identifier,
         size,
         &mut out[3 + file_path_and_name.len()..],
     );
-    WriteAnswer::Accepted(message_len)
+    Ok(message_len)
 }
 
 // A name that is not good is refused first, then too little room, 7; refused, nothing changes. What the kind lacks is ignored.
@@ -112,12 +113,9 @@ pub fn write_request(
     data_format_identifier: DataFormatIdentifier,
     size: SizePayload,
     out: &mut [u8],
-) -> WriteAnswer
+) -> Result<usize, Refusal>
     ensures { Wrote (write_request (request_of kind file_path_and_name.now data_format_identifier.0 size)) out.old result out.new }
 {
-    let n = good_name(file_path_and_name);
-    let WriteAnswer::Accepted(_) = n else {
-        return n;
-    };
+    good_name(file_path_and_name)?;
     write_named(kind, file_path_and_name, data_format_identifier, size, out)
 }

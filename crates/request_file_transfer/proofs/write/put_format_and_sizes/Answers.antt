@@ -6,4 +6,4 @@ use Rattle.request_file_transfer.proofs.write.put_format_and_sizes.Goals as goal
 
 pub returns : goal.returns
 returns c =
-    filled_more 1 (rw c.value.ensures at (filled refl c.put_byte.ensures)) (filled refl c.put_two_sizes.ensures) refl
+    filled_more 1 (rw c.into.ensures at (filled refl c.put_byte.ensures)) (filled refl c.put_two_sizes.ensures) refl

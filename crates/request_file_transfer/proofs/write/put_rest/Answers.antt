@@ -16,4 +16,4 @@ returns-in-Nothing c = rw c.in-Nothing.is filled_none
 
 pub returns-in-FormatOnly : goal.returns-in-FormatOnly
 returns-in-FormatOnly c =
-    rw (c.in-FormatOnly.is, ← c.value.ensures) (filled refl c.put_byte.ensures)
+    rw (c.in-FormatOnly.is, ← c.into.ensures) (filled refl c.put_byte.ensures)

@@ -19,4 +19,4 @@ pub returns : goal.returns
 returns c =
     let a = c.args in
     laid_out_lem a.kind _ a.size _ c.requires c.request_len-message_len.ensures c.if-room-message_len.false c.after_name.ensures
-    (rw c.value.ensures at c.put_byte.ensures) c.put_counted.ensures c.put_rest.ensures
+    (rw c.into.ensures at c.put_byte.ensures) c.put_counted.ensures c.put_rest.ensures

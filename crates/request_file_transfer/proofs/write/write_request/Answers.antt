@@ -1,17 +1,16 @@
 -- `request_file_transfer::write::write_request` meets its contract: the checks of the name, and then the writer of a good one.
-use mathlib.Core.Path.{sym, ap, ◌∙◌}
-use Rattle.wire.specs.Writing.{told}
+use Rattle.std.proofs.lemmas.Result.{err_from_is_err_and}
 use Rattle.request_file_transfer.proofs.Laid.{named, off}
 use Rattle.request_file_transfer.proofs.write.write_request.Goals as goal
 
-pub returns-in_default : goal.returns-in_default
-returns-in_default c =
+pub returns-in_err-good_name : goal.returns-in_err-good_name
+returns-in_err-good_name c =
     let a = c.args in
-    let e = c.in_default.is in
-    rw e (off a.kind _ a.size _ _ (sym (ap told e) ∙ c.good_name-n.ensures))
+    let (y, same, made) = err_from_is_err_and c.from_residual.result c.from_residual.ensures.1 in
+    rw (same, made) (off a.kind _ a.size _ _ c.in_err-good_name.ensures)
 
 pub write_named-requires : goal.write_named-requires
-write_named-requires c = (named _ (sym (ap told c.in-Accepted.is) ∙ c.good_name-n.ensures)).0
+write_named-requires c = (named _ c.in_ok-good_name.ensures).0
 
 pub returns : goal.returns
 returns c = c.write_named.ensures
