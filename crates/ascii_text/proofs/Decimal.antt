@@ -1,17 +1,17 @@
--- The fewest digits that hold a number, as `io::decimal` promises them, are the paper's decimal; and how many they are at most.
+-- The digits of a number, as `io::decimal` promises them and as std prints them, are the paper's decimal; and how many they are at most.
 -- Assumes nothing.
-use mathlib.Core.Path.{◌≡◌}
-use Prim.Native.Nat.{ℕ, zero, suc, ◌+◌, ◌*◌, ◌/◌, ◌%◌, ◌^◌, ◌≤◌, ◌<◌}
-use mathlib.Core.Bool.{Bool, true, false}
-use mathlib.Core.List.{List, [], ◌∷◌, ◌++◌}
+use mathlib.Core.Path.{◌≡◌, sym, ◌∙◌}
+use Prim.Native.Nat.{ℕ, zero, suc, ◌*◌, ◌/◌, ◌%◌, ◌^◌, ◌≤◌, ◌<◌}
+use mathlib.Core.List.{List}
 use native.Mathlib.Nat.{pow-suc, one-le-pow}
 use native.Mathlib.Numerals.{unary_clauses}
 use native.Mathlib.Omega.{arith}
 use borrow.Author.Tests.{lt-ltb, le-ltb}
-use lib.Dec.{ltb, lit<}
-use lib.ListN.{length, length-append}
+use lib.Dec.{lit<}
+use lib.ListN.{length}
+use Rattle.std.specs.Fmt.{decimal as shown}
+use Rattle.std.proofs.lemmas.Fmt.{AppendsLastDigit, decimal_from_appends, length-decimal-le, length-decimal-le_succ}
 use Rattle.io.specs.Digits.{last_digits, IsDigitCount}
-use Rattle.paper.specs.Choice.{pick}
 use Rattle.paper.specs.ReadingProgram.{decimal_in, decimal}
 
 -- k digits hold k
@@ -46,19 +46,22 @@ unfolding decimal
 decimal-is n zero h = absurd (omega arith)
 decimal-is n (suc k) (_, l, s) = let m : 0 < k → 10 ^ k ≤ n = λ h. simp unary_clauses at (s (omega arith)) in spelt k (suc n) n (enough k n m) l m
 
--- one digit, or one more than before
-one_more_lem : (b : Bool) (x y m : ℕ) (s : List ℕ) → length s ≤ m → length (pick b (x ∷ []) (s ++ (y ∷ []))) ≤ suc m
-one_more_lem true x y m s h = omega arith
-one_more_lem false x y m s h = simp length-append (omega arith)
-
--- a number that k + 1 digits hold has no more
-no-more : (f k n : ℕ) → n < 10 ^ suc k → length (decimal_in f n) ≤ suc k
+-- ---- the digits that std prints, as `{n}` does
+last_digit_last : AppendsLastDigit decimal_in
 unfolding decimal_in
-no-more zero k n h = omega arith
-no-more (suc f) zero n h = rw (lt-ltb n 10 h) (omega arith)
-no-more (suc f) (suc k) n h = one_more_lem (ltb n 10) (48 + n) (48 + n % 10) (suc k) (decimal_in f (n / 10)) (no-more f k (n / 10) (without_last k n h))
+last_digit_last = record {
+  one = λ k n h. rw (lt-ltb n 10 h);
+  more = λ k n h. rw (le-ltb n 10 h);
+}
+
+decimal_same : (n : ℕ) → n < 2 ^ 64 → shown n ≡ decimal n
+unfolding decimal
+decimal_same n h = sym (decimal_from_appends decimal_in last_digit_last (suc n) n h (omega (arith, length-decimal-le_succ n h)))
+
+-- the bytes of that text
+pub printed : {text digits : List ℕ} {n : ℕ} → digits ≡ text → text ≡ shown n → n < 2 ^ 64 → digits ≡ decimal n
+printed {n = n} e f h = e ∙ f ∙ decimal_same n h
 
 -- a number of 64 bits has at most 20
 pub short : (n : ℕ) → n < 2 ^ 64 → length (decimal n) ≤ 20
-unfolding decimal
-short n h = no-more (suc n) 19 n (omega arith)
+short n h = rw (← decimal_same n h) (length-decimal-le 20 n (lit< tt) (omega arith) h)

@@ -6,20 +6,21 @@ use mathlib.Core.List.{List, [], ◌++◌, append_assoc}
 use native.Mathlib.Nat.{le_refl}
 use native.Mathlib.Omega.{arith}
 use borrow.Author.Tests.{lt-leb, le-leb}
+use Rattle.std.specs.Prelude.{Result}
 use lib.ListN.{length, take, length-append}
 use lib.Seq.{length-take-le, take_at}
 use Rattle.io.specs.Counts.{IsPrefixLen}
 use Rattle.paper.specs.Answer.{Refusal, accepted, over, written}
 use Rattle.paper.specs.ReadingProgram.{decimal, ascii, text_of, bad}
 use Rattle.wire.specs.Writing.{Wrote, Filled}
-use Rattle.wire.specs.declared.write.WriteAnswer.{WriteAnswer}
+use Rattle.wire.specs.declared.refusal.Refusal.{Refusal as Why}
 use Rattle.wire.proofs.Over.{over_length, rest, back, filled_none, filled_more, filled_as}
 use Rattle.wire.proofs.Writes.{filled}
 use Rattle.ascii_text.specs.Text.{Laid, Put, field}
 
 -- ---- a writer's promise
 -- bytes written by one leaf, however they are spelt
-pub laid_leaf : {bytes text old new : List ℕ} {r : WriteAnswer} → bytes ≡ text → Wrote (accepted bytes) old r new → Laid text (length bytes) old new
+pub laid_leaf : {bytes text old new : List ℕ} {r : Result ℕ Why} → bytes ≡ text → Wrote (accepted bytes) old r new → Laid text (length bytes) old new
 laid_leaf {old = old} e w = record { counted = ap length e; contents = w.contents ∙ ap (λ (s : List ℕ). (written (accepted s) old).contents) e }
 
 -- too little room: nothing changes
@@ -50,7 +51,7 @@ field_length w n {k} h e l = rw (field-short w n h) (omega (arith, l, ap length 
 pub put-laid : {text old new : List ℕ} {n most : ℕ} → Laid text n old new → n ≤ most → Put text n most old new
 put-laid {text} {old} l h = (l.counted, h, record { given_room = λ room. l.contents ∙ rw (le-leb (length text) (length old) room) })
 
-pub put_leaf : {bytes old new : List ℕ} {r : WriteAnswer} → Wrote (accepted bytes) old r new → Put bytes (length bytes) (length bytes) old new
+pub put_leaf : {bytes old new : List ℕ} {r : Result ℕ Why} → Wrote (accepted bytes) old r new → Put bytes (length bytes) (length bytes) old new
 put_leaf w = (refl, le_refl _, filled refl w)
 
 -- one piece more, in the room that begins where the last ended

@@ -10,7 +10,7 @@ use Rattle.ascii_text.proofs.put_decimal.Reads as put-decimal
 use Rattle.ascii_text.proofs.put_field.Kinds as put-field-kinds
 use Rattle.ascii_text.proofs.put_field.Reads as put-field
 use Rattle.ascii_text.proofs.put_refused.Kinds as put-refused-kinds
-use Rattle.ascii_text.proofs.put_refused.Reads as Put-refused
+use Rattle.ascii_text.proofs.put_refused.Reads as put-refused
 
 -- one law for every writer of a text
 pub laid_once : {text old x y : List ℕ} {m n : ℕ} → Laid text m old x → Laid text n old y → (m ≡ n) × (x ≡ y)
@@ -23,5 +23,5 @@ put_decimal_determined κs a x y r₁ r₂ p q = laid_once p.0 q.0
 pub put_field_determined : WritesOnce 2 put-field-kinds.ps put-field-kinds.r (λ κs x. x.1.1.0) put-field.Post
 put_field_determined κs a x y r₁ r₂ p q = laid_once p.0 q.0
 
-pub put_refused_determined : WritesOnce 1 put-refused-kinds.ps put-refused-kinds.r (λ κs x. x.1.0) Put-refused.Post
+pub put_refused_determined : WritesOnce 1 put-refused-kinds.ps put-refused-kinds.r (λ κs x. x.1.0) put-refused.Post
 put_refused_determined κs a x y r₁ r₂ p q = laid_once p.0 q.0

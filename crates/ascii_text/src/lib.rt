@@ -1,5 +1,6 @@
 // Text in lent room: decimal numbers, words with a number, and the line of a refusal, in ASCII. Each function puts its text at the start of `out` and
 // answers how many bytes the text has. Where they do not fit nothing changes: who lends less room than the text can have compares the answer with it.
+// Every part is put by its own call: `write!` promises which bytes it writes only where it answers `Ok`, and not that it does, so no contract below would follow.
 #![tactic(auto)]
 
 ghost use Rattle.std.specs.Prelude.{◌+◌, ◌≤◌, length};
@@ -7,6 +8,7 @@ ghost use Rattle.paper.specs.ReadingProgram.{decimal, text_of, bad};
 ghost use Rattle.wire.specs.Refusals.{row};
 ghost use Rattle.ascii_text.specs.Text.{Laid, Put, field};
 
+use itoa::Buffer;
 use wire::refusal::Refusal;
 use wire::write::{put_byte, put_bytes};
 
@@ -15,10 +17,10 @@ pub fn put_decimal(n: u64, out: &mut [u8]) -> usize
     ensures laid { Laid (decimal n) result out.old out.new }
     ensures upper_bound { result ≤ 20 }
 {
-    let mut digits = [0u8; 20];
-    let k = io::decimal(n, &mut digits);
-    put_bytes(&digits[..k], out);
-    k
+    let mut buffer = Buffer::new();
+    let digits = buffer.format(n).as_bytes();
+    let _ = put_bytes(digits, out);
+    digits.len()
 }
 
 // A word of at most 64 letters and the number after it; nothing where the word is longer.
@@ -29,14 +31,14 @@ pub fn put_field(word: &[u8], n: u64, out: &mut [u8]) -> usize
     if 64 < word.len() {
         return 0;
     }
-    let mut digits = [0u8; 20];
-    let k = io::decimal(n, &mut digits);
-    let all = word.len() + k;
+    let mut buffer = Buffer::new();
+    let digits = buffer.format(n).as_bytes();
+    let all = word.len() + digits.len();
     if out.len() < all {
         return all;
     }
-    put_bytes(word, out);
-    put_bytes(&digits[..k], &mut out[word.len()..]);
+    let _ = put_bytes(word, out);
+    let _ = put_bytes(digits, &mut out[word.len()..]);
     all
 }
 
@@ -48,7 +50,7 @@ fn lay_refused(refusal: Refusal, line: &mut [u8]) -> usize
     let a = put_field(b"refused ", refusal.number() as u64, line);
     let b = a + put_field(b" ", refusal.first() as u64, &mut line[a..]);
     let c = b + put_field(b" ", refusal.second() as u64, &mut line[b..]);
-    put_byte(b'\n', &mut line[c..]);
+    let _ = put_byte(b'\n', &mut line[c..]);
     c + 1
 }
 
@@ -59,6 +61,6 @@ pub fn put_refused(refusal: Refusal, out: &mut [u8]) -> usize
 {
     let mut line = [0u8; 71];
     let n = lay_refused(refusal, &mut line);
-    put_bytes(&line[..n], out);
+    let _ = put_bytes(&line[..n], out);
     n
 }

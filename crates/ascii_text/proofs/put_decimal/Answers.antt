@@ -1,14 +1,8 @@
--- `ascii_text::put_decimal` meets its contract: the fewest digits that hold the number are its decimal.
-use mathlib.Core.Path.{ap, ◌∙◌}
-use lib.ListN.{length}
-use Rattle.ascii_text.proofs.Decimal.{decimal-is, short}
+-- `ascii_text::put_decimal` meets its contract: the digits that std prints are the paper's.
+use Rattle.ascii_text.proofs.Decimal.{printed}
 use Rattle.ascii_text.proofs.Laid.{laid_leaf}
 use Rattle.ascii_text.proofs.put_decimal.Goals as goal
 
-pub returns : goal.returns
-returns c =
-    let d = c.decimal-k in
-    let n = c.args.n in
-    let is = d.ensures.digits ∙ decimal-is n d.result d.ensures.len in
-    let long = d.ensures.in_bounds.1 in
-    record { laid = rw long (laid_leaf is c.put_bytes.ensures); upper_bound = rw (long ∙ ap length is) (short n c.ranges.n.fits) }
+pub returns-clause-laid : goal.returns-clause-laid
+returns-clause-laid c =
+    laid_leaf (printed c.as_bytes-digits.ensures.value c.format.ensures.text c.ranges.n.fits) c.put_bytes.ensures
