@@ -10,11 +10,12 @@ use native.Mathlib.Numerals.{add-one}
 use borrow.Author.Tests.{lt-ltb, le-ltb, ne_eqb}
 use lib.Dec.{ltb}
 use lib.ListN.{length, drop, set, get_or, length-append, length-drop, drop_of_length-le}
-use lib.Seq.{drop-cons, drop-drop, set_at, length-take-le}
+use lib.Seq.{drop-cons, set_at, length-take-le}
 use Rattle.io.specs.Counts.{IsPrefixLen}
 use Rattle.paper.specs.Choice.{pick}
 use Rattle.paper.specs.Answer.{over}
-use Rattle.paper.specs.Form.{first_of, filled_in}
+use Rattle.paper.specs.ReadingProgram.{decimal}
+use Rattle.paper.specs.Form.{filled_in}
 use Rattle.form.specs.Text.{Text, text, with, grown, Grew}
 
 -- ---- one piece after the other
@@ -61,20 +62,27 @@ unfolding grown
 all-put bytes i h e = rw (drop_of_length-le bytes h) at e
 
 -- ---- a form
-module _ (form : List ℕ) (i : ℕ) {m n r : ℕ} {held new : List ℕ} {goal : Text} (h : i < length form) where
-  -- a blank
-  pub blank_more : (numbers : List ℕ) (k : ℕ) → get_or form i 0 ≡ 95 → grown (filled_in (drop i form) (drop k numbers)) (text n held) ≡ goal
-      → Grew (first_of (drop k numbers)) m n held r new → grown (filled_in (drop (i + 1) form) (drop (k + 1) numbers)) (text r new) ≡ goal
+module _ (form : List ℕ) (i : ℕ) {n : ℕ} {held : List ℕ} {goal : Text} (h : i < length form) where
+  -- a blank, filled in with the first of the numbers
+  pub number_more : {x r : ℕ} {numbers others new : List ℕ} → get_or form i 0 ≡ 95 → numbers ≡ x ∷ others → grown (filled_in (drop i form) numbers) (text n held) ≡ goal
+      → Grew (decimal x) 20 n held r new → grown (filled_in (drop (i + 1) form) others) (text r new) ≡ goal
   unfolding filled_in
-  blank_more numbers k is e g =
-      let f = rw (drop-cons form i 0 h, is, grown-more (first_of (drop k numbers)) _ (text n held), drop-drop 1 k numbers) at e in
+  number_more {x} {others = others} is some e g =
+      let f = rw (drop-cons form i 0 h, is, some, grown-more (decimal x) (filled_in (drop (suc i) form) others) (text n held)) at e in
       rw (add-one i, g.right) f
 
   -- any other letter
-  pub sign_more : (numbers : List ℕ) → (get_or form i 0 ≡ 95 → ⊥) → grown (filled_in (drop i form) numbers) (text n held) ≡ goal
+  pub sign_more : (numbers : List ℕ) {new : List ℕ} {m r : ℕ} → (get_or form i 0 ≡ 95 → ⊥) → grown (filled_in (drop i form) numbers) (text n held) ≡ goal
       → Grew (get_or form i 0 ∷ []) m n held r new → grown (filled_in (drop (i + 1) form) numbers) (text r new) ≡ goal
   unfolding filled_in grown
   sign_more numbers other e g = rw (add-one, g.right) (rw (drop-cons form i 0 h, ne_eqb _ _ other) at e)
+
+-- a blank for which no number is left
+pub nothing_more : (form : List ℕ) (i : ℕ) (numbers : List ℕ) (t : Text) {goal : Text} → i < length form → get_or form i 0 ≡ 95 → length numbers ≡ 0
+    → grown (filled_in (drop i form) numbers) t ≡ goal → grown (filled_in (drop (i + 1) form) numbers) t ≡ goal
+unfolding filled_in
+nothing_more form i [] t h is none_left e = rw (add-one i) (rw (drop-cons form i 0 h, is) at e)
+nothing_more form i (x ∷ others) t h is none_left e = absurd (omega arith)
 
 -- the form is filled in
 pub form-put : (form numbers : List ℕ) (i : ℕ) {n : ℕ} {held : List ℕ} {goal : Text} → length form ≤ i → grown (filled_in (drop i form) numbers) (text n held) ≡ goal → text n held ≡ goal

@@ -1,12 +1,17 @@
 // A text put together from left to right. The first `at` bytes of `out` are the text so far; each function adds to them and answers how many they
 // then are. A letter for which `out` has no room is left out.
+// `out` and `at` are two parameters: a struct that kept `out` as a `&mut` would need a clause in each of its functions that it still holds that reference.
 #![tactic(auto)]
 
-ghost use Rattle.std.specs.Prelude.{◌≡◌, ◌+◌, ◌-◌, ◌*◌, ◌≤◌, ◌<◌, [], ◌∷◌, length, drop};
+ghost use Rattle.std.specs.Prelude.{◌≡◌, ◌+◌, ◌*◌, ◌<◌, [], ◌∷◌, length};
 ghost use Rattle.paper.specs.ReadingProgram.{decimal};
-ghost use Rattle.paper.specs.Form.{first_of, filled_in};
+ghost use Rattle.paper.specs.Form.{filled_in};
 ghost use Rattle.paper.specs.MessageProgram.{hex_digit, hex_byte};
 ghost use Rattle.form.specs.Text.{Grew};
+
+use itoa::Buffer;
+
+const BLANK: u8 = b'_';
 
 fn put_letter(letter: u8, out: &mut [u8], at: usize) -> usize
     ensures { Grew (letter ∷ []) 1 at out.old result out.new }
@@ -23,10 +28,8 @@ pub fn put(bytes: &[u8], out: &mut [u8], at: usize) -> usize
     ensures { Grew bytes.now (length bytes.now) at out.old result out.new }
 {
     let mut end = at;
-    let mut i = 0;
-    while i < bytes.len() {
-        end = put_letter(bytes[i], out, end);
-        i += 1;
+    for byte in bytes {
+        end = put_letter(*byte, out, end);
     }
     end
 }
@@ -49,37 +52,24 @@ pub fn put_hex(b: u8, out: &mut [u8], at: usize) -> usize
 fn put_number(n: u64, out: &mut [u8], at: usize) -> usize
     ensures { Grew (decimal n) 20 at out.old result out.new }
 {
-    let mut digits = [0u8; 20];
-    let k = io::decimal(n, &mut digits);
-    put(&digits[..k], out, at)
+    let mut buffer = Buffer::new();
+    put(buffer.format(n).as_bytes(), out, at)
 }
 
-// The number at place `k` in decimal; nothing where there is none.
-fn put_blank(numbers: &[u64], k: usize, out: &mut [u8], at: usize) -> usize
-    ensures grew { Grew (first_of (drop k numbers.now)) 20 at out.old result out.new }
-    ensures k_bound { result + 20 * (length numbers.now - (k + 1)) ≤ at + 20 * (length numbers.now - k) }
-{
-    if numbers.len() <= k {
-        return at;
-    }
-    put_number(numbers[k], out, at)
-}
-
-// A form with its blanks filled in: each `_` with the next of the numbers, in decimal.
+// A form with its blanks filled in: each blank, a `_`, with the next of the numbers, in decimal; with nothing where none is left.
+// The paper says its texts by such forms. `write!` has no contract here: it promises which bytes it writes only where it answers `Ok`, and not that it does.
 pub fn put_form(form: &[u8], numbers: &[u64], out: &mut [u8], at: usize) -> usize
     ensures { Grew (filled_in form.now numbers.now) (length form.now + 20 * length numbers.now) at out.old result out.new }
 {
     let mut end = at;
-    let mut i = 0;
-    let mut k = 0;
-    while i < form.len() {
-        if form[i] == b'_' {
-            end = put_blank(numbers, k, out, end);
-            k += 1;
-        } else {
-            end = put_letter(form[i], out, end);
+    let mut left = numbers;
+    for letter in form {
+        if *letter != BLANK {
+            end = put_letter(*letter, out, end);
+        } else if let Some((n, others)) = left.split_first() {
+            end = put_number(*n, out, end);
+            left = others;
         }
-        i += 1;
     }
     end
 }

@@ -1,29 +1,31 @@
--- `form::put_form` meets its contract. The invariant: the rest of the form, filled in with the rest of the numbers after the text so far, makes the
--- text that is promised; each letter passed took at most one byte, each number passed at most 20.
--- The measure is how many letters are left.
-use mathlib.Core.Path.{refl}
+-- `form::put_form` meets its contract: a letter, a number or nothing in a blank, and the end of the form.
 use native.Mathlib.Omega.{arith}
-use borrow.Author.Rules.{rules}
-use lib.ListN.{drop}
-use Rattle.form.proofs.Grown.{blank_more, sign_more, form-put}
+use Rattle.form.proofs.Grown.{number_more, nothing_more, sign_more, form-put}
 use Rattle.form.proofs.put_form.Goals as goal
-use Rattle.form.proofs.put_form.Goals.{then-form-i-eq95, else-form-i-eq95}
+use Rattle.form.proofs.put_form.Goals.{then-letter-ne-BLANK, else-letter-ne-BLANK+in-Some, else-letter-ne-BLANK+in_default}
 
-pub loop-i-init : goal.loop-i-init
-loop-i-init c = (search rules, search rules, search rules, refl, refl)
-
-pub loop-i-preserved : goal.loop-i-preserved
-loop-i-preserved c =
-    let l = c.loop-i in
-    let a = c.args in
-    let h = c.loop-i-test.true in
-    elim c.if-form-i-eq95.branch [
-      | then-form-i-eq95 w ↦ rw (w.out-is, w.end-is, w.k-is) (omega arith, omega arith, omega (arith, w.put_blank-end.ensures.k_bound), search rules, blank_more a.form.now l.i h a.numbers.now l.k w.if-form-i-eq95.true l.invariant.4 w.put_blank-end.ensures.grew)
-      | else-form-i-eq95 w ↦ rw (w.out-is, w.end-is, w.k-is) (omega arith, omega arith, omega (arith, w.put_letter-end.ensures.bound), search rules, sign_more a.form.now l.i h (drop l.k a.numbers.now) w.if-form-i-eq95.false l.invariant.4 w.put_letter-end.ensures)
+pub loop-letter-preserved : goal.loop-letter-preserved
+loop-letter-preserved c =
+    let l = c.loop-letter in
+    let form = c.args.form.now in
+    let more = c.loop-letter-test.true in
+    let so_far = l.invariant.goes_on in
+    elim c.if-letter-ne-BLANK.branch [
+      | then-letter-ne-BLANK w ↦ rw (w.out-is, w.end-is, w.left-is) (record {
+        bound = omega (arith, w.put_letter-end.ensures.bound);
+        goes_on = sign_more form _ more _ w.if-letter-ne-BLANK.true so_far w.put_letter-end.ensures;
+      })
+      | else-letter-ne-BLANK+in-Some w ↦ rw (w.out-is, w.end-is, w.left-is) (record {
+        bound = omega (arith, w.put_number-end.ensures.bound, w.in-Some.ensures.cases.1);
+        goes_on = number_more form _ more (omega (arith, w.if-letter-ne-BLANK.false)) w.in-Some.ensures.cases.0 so_far w.put_number-end.ensures;
+      })
+      | else-letter-ne-BLANK+in_default w ↦ rw (w.out-is, w.end-is, w.left-is) (record {
+        bound = omega arith;
+        goes_on = nothing_more form _ _ _ more (omega (arith, w.if-letter-ne-BLANK.false)) w.in_default.ensures.cases so_far;
+      })
     ]
 
 pub returns : goal.returns
 returns c =
-    let l = c.loop-i in
-    let a = c.args in
-    record { right = form-put a.form.now _ l.i c.loop-i-test.false l.invariant.4; bound = omega arith }
+    let l = c.loop-letter in
+    record { right = form-put c.args.form.now _ _ c.loop-letter-test.false l.invariant.goes_on; bound = omega arith }
