@@ -5,6 +5,7 @@ use Prim.Native.Nat.{ℕ}
 use mathlib.Core.List.{List, [], ◌∷◌}
 use denote.Ref.{Bor}
 use lib.ListN.{replicate}
+use Rattle.std.specs.Prelude.{Result, Ok, Err}
 use Rattle.paper.specs.Answer.{Answer, accepted, refused}
 use Rattle.paper.specs.Utf8.{in_range}
 use Rattle.paper.specs.Tally.{entries, records, in_ranges, all_good, count, table, tallied, table_of, verdict, TablesRight}
@@ -13,23 +14,23 @@ use Rattle.paper.proofs.Tally.{tables_right}
 use Rattle.wire.specs.Refusals.{row}
 use Rattle.tally.specs.Judged.{judged}
 use Rattle.tally.specs.Calls.{Call, together, Answered}
-use Rattle.tally.specs.declared.Tallied.{Tallied}
+use Rattle.wire.specs.declared.refusal.Refusal.{Refusal}
 use Rattle.tally.proofs.judge_records.Reads as judge-records
 use Rattle.tally.proofs.tally.Reads as tally
 
 -- the calls of `judge_records` and of `tally` that kept their contracts
-abbrev pub JudgeCall : List ℕ → Tallied → Type 0
+abbrev pub JudgeCall : List ℕ → Result (Unit {0}) Refusal → Type 0
 JudgeCall = Call judge-records.Post
 
 abbrev pub TallyCall : List ℕ → List (List ℕ) → Type 0
 TallyCall = Call tally.Post
 
 -- a verdict and a table that are the paper's are together the paper's answer
-whole-answer : (x : Answer (List (List ℕ))) (v : Tallied) {t : List (List ℕ)} → judged v ≡ verdict x → t ≡ table_of x → together v t ≡ x
-whole-answer (accepted u) Tallied.Counted h e = ap accepted e
-whole-answer (accepted u) (Tallied.Refused r) h e = absurd (never h)
-whole-answer (refused r) Tallied.Counted h e = absurd (never (sym h))
-whole-answer (refused r) (Tallied.Refused q) h e = let same : row q ≡ r = cc in ap refused same
+whole-answer : (x : Answer (List (List ℕ))) (v : Result (Unit {0}) Refusal) {t : List (List ℕ)} → judged v ≡ verdict x → t ≡ table_of x → together v t ≡ x
+whole-answer (accepted u) (Ok v) h e = ap accepted e
+whole-answer (accepted u) (Err r) h e = absurd (never h)
+whole-answer (refused r) (Ok v) h e = absurd (never (sym h))
+whole-answer (refused r) (Err q) h e = let same : row q ≡ r = cc in ap refused same
 
 answered : (s : List ℕ) (a : Answer (List (List ℕ))) → Answered JudgeCall TallyCall s a → a ≡ tallied s
 answered s a h =
@@ -53,7 +54,7 @@ lent = record { ref_ptr = (0, 0); now = sheet }
 pub example : Answered JudgeCall TallyCall sheet (accepted january)
 unfolding in_range entries records in_ranges all_good count table tallied
 example = record {
-  verdict = Tallied.Counted;
+  verdict = Ok tt;
   table = january;
   judging = record { lifetimes = ([], tt); args = (lent, tt); exit = (lent, tt); lent = refl; met = refl };
   counting = record { lifetimes = ([], tt); args = (lent, tt); exit = (lent, tt); lent = refl; met = refl };

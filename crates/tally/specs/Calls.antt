@@ -1,11 +1,11 @@
 -- The laws of tables in terms of calls: what the call that judges a sheet and the call that counts it say together.
 -- A call is its lifetimes, arguments, exit and result, and that they meet the contract: that every run of the function is such a call, its own proof says.
-use Rattle.std.specs.Prelude.{◌≡◌, ℕ, List}
+use Rattle.std.specs.Prelude.{◌≡◌, ℕ, List, Result, Ok, Err}
 use contract.Lifetimes.{Lfts}
 use Rattle.std.specs.Borrow.{Bor}
 use Rattle.paper.specs.Answer.{Answer, accepted, refused}
 use Rattle.wire.specs.Refusals.{row}
-use Rattle.tally.specs.declared.Tallied.{Tallied}
+use Rattle.wire.specs.declared.refusal.Refusal.{Refusal}
 
 -- what is lent to a call: a sheet
 abbrev pub Lent : Type 0
@@ -20,13 +20,13 @@ pub record Call {R : Type 0} (Post : Lfts 1 → Lent → R → Lent → Type 0) 
   pub met : Post lifetimes args r exit
 
 -- what the two answers say together
-abbrev pub together : Tallied → List (List ℕ) → Answer (List (List ℕ))
-together Tallied.Counted t = accepted t
-together (Tallied.Refused e) t = refused (row e)
+abbrev pub together : Result (Unit {0}) Refusal → List (List ℕ) → Answer (List (List ℕ))
+together (Ok u) t = accepted t
+together (Err e) t = refused (row e)
 
 -- both calls were lent the sheet s, and together they say a
-pub record Answered (Judging : List ℕ → Tallied → Type 0) (Counting : List ℕ → List (List ℕ) → Type 0) (s : List ℕ) (a : Answer (List (List ℕ))) : Type 0 where
-  pub verdict : Tallied
+pub record Answered (Judging : List ℕ → Result (Unit {0}) Refusal → Type 0) (Counting : List ℕ → List (List ℕ) → Type 0) (s : List ℕ) (a : Answer (List (List ℕ))) : Type 0 where
+  pub verdict : Result (Unit {0}) Refusal
   pub table : List (List ℕ)
   pub judging : Judging s verdict
   pub counting : Counting s table

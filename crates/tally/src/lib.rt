@@ -4,80 +4,64 @@
 
 pub mod sheet;
 
-ghost use Rattle.std.specs.Prelude.{◌≡◌};
+ghost use Rattle.std.specs.Prelude.{◌≡◌, ◌≤◌, IsTrue};
 ghost use Rattle.paper.specs.Tally.{in_ranges, good_length, tallied, table_of, verdict};
-ghost use Rattle.tally.specs.Judged.{judged};
+ghost use Rattle.tally.specs.Judged.{judged, counted};
 
 use wire::refusal::Refusal;
 
-#[derive(Clone, Copy)]
-pub enum Tallied {
-    Counted,
-    Refused(Refusal),
-}
-
 // Whether a record's month is 1 to 12, its direction 0 or 1 and its refusal number 0 to 9. Station and coach number may be anything.
 fn in_ranges(month: u8, direction: u8, number: u8) -> bool
-    ensures { result ≡ in_ranges month direction number }
+    ensures value { result ≡ in_ranges month direction number }
+    ensures bounds { IsTrue result → (1 ≤ month) × (month ≤ 12) × (number ≤ 9) }
 {
     (1 <= month) & (month <= 12) & (direction <= 1) & (number <= 9)
 }
 
 // What the length decides: 12 for more than 65,536 whole records, then 10 where it is no multiple of 8.
-fn judge_length(len: usize) -> Tallied
+fn judge_length(len: usize) -> Result<(), Refusal>
     ensures { judged result ≡ good_length len }
 {
     if 65536 < len / 8 {
-        return Tallied::Refused(Refusal::TooMany);
+        return Err(Refusal::TooMany);
     }
     if len % 8 != 0 {
-        return Tallied::Refused(Refusal::Cut);
+        return Err(Refusal::Cut);
     }
-    Tallied::Counted
+    Ok(())
 }
 
-// Whether the records can be counted: 12, then 10, then 11 with the place of the first record that has a field out of range.
-pub fn judge_records(records: &[u8]) -> Tallied
+// The table in one pass: a row for each month, a count for each refusal number. Refused: 12, then 10, then 11 with the place of the first record that has
+// a field out of range.
+pub fn count_records(records: &[u8]) -> Result<[[u32; 10]; 12], Refusal>
+    ensures { counted result ≡ tallied records.now }
+{
+    judge_length(records.len())?;
+    let (whole, _) = records.as_chunks::<8>();
+    let mut table = [[0u32; 10]; 12];
+    for (place, record) in whole.iter().enumerate() {
+        let [month, _, direction, number, ..] = *record;
+        if !in_ranges(month, direction, number) {
+            return Err(Refusal::OutOfRange { place });
+        }
+        let row = usize::from(month) - 1;
+        let cell = usize::from(number);
+        table[row][cell] += 1;
+    }
+    Ok(table)
+}
+
+// Whether the records can be counted.
+pub fn judge_records(records: &[u8]) -> Result<(), Refusal>
     ensures { judged result ≡ verdict (tallied records.now) }
 {
-    let length = judge_length(records.len());
-    let Tallied::Counted = length else {
-        return length;
-    };
-    let n = records.len() / 8;
-    let mut k: usize = 0;
-    while k < n {
-        let at = 8 * k;
-        if !in_ranges(records[at], records[at + 2], records[at + 3]) {
-            return Tallied::Refused(Refusal::OutOfRange { place: k });
-        }
-        k += 1;
-    }
-    Tallied::Counted
+    count_records(records)?;
+    Ok(())
 }
 
-// The table in one pass: a row for each month, a count for each refusal number. Records that are refused give a table of zeros.
+// The table alone. Records that are refused give a table of zeros.
 pub fn tally(records: &[u8]) -> [[u32; 10]; 12]
     ensures { result ≡ table_of (tallied records.now) }
 {
-    let length = judge_length(records.len());
-    let Tallied::Counted = length else {
-        return [[0u32; 10]; 12];
-    };
-    let n = records.len() / 8;
-    let mut table = [[0u32; 10]; 12];
-    let mut k: usize = 0;
-    while k < n {
-        let at = 8 * k;
-        let month = records[at];
-        let number = records[at + 3];
-        if !in_ranges(month, records[at + 2], number) {
-            return [[0u32; 10]; 12];
-        }
-        let row = month as usize - 1;
-        let cell = number as usize;
-        table[row][cell] += 1;
-        k += 1;
-    }
-    table
+    count_records(records).unwrap_or([[0; 10]; 12])
 }

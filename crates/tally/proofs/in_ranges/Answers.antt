@@ -13,6 +13,6 @@ four true true false n = refl
 four true false d n = refl
 four false b d n = refl
 
-pub returns : goal.returns
+pub returns-clause-value : goal.returns-clause-value
 unfolding in_ranges in_range
-returns c = let a = c.args in rw (leb-zero, leb-zero) (four (leb 1 a.month) (leb a.month 12) (leb a.direction 1) (leb a.number 9))
+returns-clause-value c = let a = c.args in rw (leb-zero, leb-zero) (four (leb 1 a.month) (leb a.month 12) (leb a.direction 1) (leb a.number 9))

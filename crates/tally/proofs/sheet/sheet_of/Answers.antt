@@ -1,17 +1,12 @@
--- `tally::sheet::sheet_of` meets its contract: the cells are those of the table, and where one counts something the sheet was not refused.
-use mathlib.Core.Path.{◌≡◌, sym, ap, ◌∙◌}
-use Rattle.paper.specs.Tally.{tallied, table_of}
-use Rattle.tally.specs.Sheet.{cells_of, any_count}
-use Rattle.tally.proofs.Cells.{shaped, counted_something}
+-- `tally::sheet::sheet_of` meets its contract: a refused sheet has the cells of a table of zeros.
+use mathlib.Core.Path.{ap}
+use mathlib.Core.List.{List}
+use Prim.Native.Nat.{ℕ}
+use Rattle.paper.specs.Answer.{Answer}
+use Rattle.paper.specs.Tally.{table_of, verdict}
+use Rattle.tally.specs.Sheet.{cells_of}
 use Rattle.tally.proofs.sheet.sheet_of.Goals as goal
 
-pub cells_of-cells-requires : goal.cells_of-cells-requires
-cells_of-cells-requires c = rw c.tally.ensures (shaped _)
-
-pub returns-then-any_count : goal.returns-then-any_count
-returns-then-any_count c =
-    let cells : c.cells_of-cells.result ≡ cells_of (table_of (tallied c.args.records.now)) = c.cells_of-cells.ensures ∙ ap cells_of c.tally.ensures in
-    record { verdict = counted_something (tallied _) (sym (ap any_count cells) ∙ sym c.any_count.ensures ∙ c.if-any_count.true); cells = cells }
-
-pub returns : goal.returns
-returns c = record { verdict = c.judge_records-verdict.ensures; cells = (let it : c.cells_of-cells.result ≡ cells_of (table_of (tallied c.args.records.now)) = c.cells_of-cells.ensures ∙ ap cells_of c.tally.ensures in it) }
+pub returns-in-Err : goal.returns-in-Err
+unfolding cells_of
+returns-in-Err c = record { verdict = ap verdict c.in-Err.ensures; cells = ap (λ (a : Answer (List (List ℕ))). cells_of (table_of a)) c.in-Err.ensures }
