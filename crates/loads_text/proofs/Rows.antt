@@ -1,12 +1,15 @@
 -- The sum of a row's last counts, one count less; the line of a month by cases; and the lines of a year, one month less.
 -- Assumes nothing.
-use Prim.Native.Nat.{ℕ, ◌+◌, ◌≤◌, ◌<◌}
-use mathlib.Core.Path.{◌≡◌}
+use Prim.Native.Nat.{ℕ, ◌+◌, ◌-◌, ◌≤◌, ◌<◌}
+use mathlib.Core.Path.{◌≡◌, sym, ap, ◌∙◌}
+use mathlib.Core.Logic.{◌⊎◌}
+use native.Mathlib.Omega.{arith}
 use mathlib.Core.List.{List, [], ◌∷◌, ◌++◌}
 use native.Mathlib.Numerals.{add-one}
 use borrow.Author.Tests.{ne_eqb}
-use lib.ListN.{length, drop, get_or, drop_of_length-le}
-use lib.Seq.{drop-cons}
+use lib.ListN.{length, drop, get_or, length-drop, drop_of_length-le}
+use lib.Seq.{drop-cons, take_all}
+use Rattle.std.specs.List.{slice_range}
 use Rattle.paper.specs.ReadingProgram.{ascii}
 use Rattle.paper.specs.Form.{filled_in}
 use Rattle.paper.specs.Tally.{sum}
@@ -19,6 +22,13 @@ sum_more row i h = rw (add-one, drop-cons row i 0 h)
 pub sum-none : (row : List ℕ) (i : ℕ) → length row ≤ i → sum (drop i row) ≡ 0
 unfolding sum
 sum-none row i h = rw (drop_of_length-le row h)
+
+-- the part of a row that begins at a number, and where there is none
+pub sum_rest : (row : List ℕ) (first : ℕ) {counts : List ℕ} → counts ≡ slice_range row first (length row) → sum counts ≡ sum (drop first row)
+sum_rest row first e = ap sum (e ∙ take_all (length row - first) (drop first row) (omega (arith, length-drop first row)))
+
+pub sum_past : (row : List ℕ) (first : ℕ) → (length row < first) ⊎ (length row < length row) → 0 ≡ sum (drop first row)
+sum_past row first h = sym (sum-none row first (omega (arith, h)))
 
 -- what `put_month` finds: how many records there are
 module _ (month : ℕ) (row : List ℕ) {a : ℕ} (is : a ≡ all row) where

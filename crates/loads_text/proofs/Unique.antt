@@ -5,8 +5,6 @@ use Rattle.wire.proofs.Unique.{Determined}
 use Rattle.wire.proofs.UniqueWriting.{WritesOnce}
 use Rattle.loads_text.proofs.room.Kinds as room-kinds
 use Rattle.loads_text.proofs.room.Reads as room
-use Rattle.loads_text.proofs.row.wide.Kinds as wide-kinds
-use Rattle.loads_text.proofs.row.wide.Reads as wide
 use Rattle.loads_text.proofs.row.sum_from.Kinds as sum-from-kinds
 use Rattle.loads_text.proofs.row.sum_from.Reads as sum-from
 use Rattle.loads_text.proofs.row.all_of.Kinds as all-of-kinds
@@ -17,9 +15,6 @@ use Rattle.loads_text.proofs.row.percent_of.Kinds as percent-of-kinds
 use Rattle.loads_text.proofs.row.percent_of.Reads as percent-of
 use Rattle.loads_text.proofs.loads_text.Kinds as loads-text-kinds
 use Rattle.loads_text.proofs.loads_text.Reads as loads-text
-
-pub wide_determined : Determined 0 wide-kinds.ps wide-kinds.r wide.Post
-wide_determined κs a x y r₁ r₂ p q = p.0 ∙ sym q.0
 
 pub sum_from_determined : Determined 0 sum-from-kinds.ps sum-from-kinds.r sum-from.Post
 sum_from_determined κs a x y r₁ r₂ p q = p.0 ∙ sym q.0

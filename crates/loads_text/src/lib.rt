@@ -12,7 +12,7 @@ ghost use Rattle.form.specs.Text.{Grew};
 use crate::row::{all_of, percent_of, refused_of};
 use ascii_text::put_refused;
 use form::put_form;
-use tally::{Tallied, judge_records, tally};
+use tally::count_records;
 use wire::write::put_bytes;
 
 // Room for an input: one byte more than it may have, so that a longer one is seen to be too long. All zeros.
@@ -40,10 +40,8 @@ fn put_lines(table: [[u32; 10]; 12], out: &mut [u8]) -> usize
     ensures { Grew (lines_from 1 table) 1056 0 out.old result out.new }
 {
     let mut end = 0;
-    let mut m = 0;
-    while m < 12 {
-        end = put_month(m as u64 + 1, table[m], out, end);
-        m += 1;
+    for (m, row) in table.iter().enumerate() {
+        end = put_month(m as u64 + 1, *row, out, end);
     }
     end
 }
@@ -56,11 +54,11 @@ pub fn loads_text(input: &[u8], out: &mut [u8; 4096]) -> usize
     ensures prefix_len { IsPrefixLen result out.new }
 {
     if 65536 < input.len() {
-        put_bytes(b"too long\n", out);
+        let _ = put_bytes(b"too long\n", out);
         return 9;
     }
-    match judge_records(input) {
-        Tallied::Counted => put_lines(tally(input), out),
-        Tallied::Refused(e) => put_refused(e, out),
+    match count_records(input) {
+        Ok(table) => put_lines(table, out),
+        Err(refusal) => put_refused(refusal, out),
     }
 }

@@ -1,10 +1,8 @@
 -- `loads_text::loads_text` meets its contract: too long, the lines of the year, or the refusal, each in room enough for it.
-use mathlib.Core.Path.{sym, ap, ◌∙◌}
 use borrow.Author.Rules.{rules}
 use Rattle.paper.specs.ReadingProgram.{text_of}
 use Rattle.ascii_text.proofs.Laid.{put_leaf, put-laid, put-over}
 use Rattle.form.proofs.Grown.{whole}
-use Rattle.tally.specs.Judged.{judged}
 use Rattle.loads_text.proofs.Lines.{too_long_lem, counted, not_counted}
 use Rattle.loads_text.proofs.loads_text.Goals as goal
 
@@ -14,14 +12,14 @@ returns-then-input-gt65536 c =
     let o = put-over (put_leaf c.put_bytes.ensures) (search rules) in
     rw (← too_long_lem _ c.if-input-gt65536.true) (record { value = o.0; out_after = o.1.0; prefix_len = o.1.1 })
 
-pub returns-in-Counted : goal.returns-in-Counted
-returns-in-Counted c =
+pub returns-in-Ok : goal.returns-in-Ok
+returns-in-Ok c =
     let o = whole c.put_lines.ensures (search rules) in
-    rw (← counted _ c.if-input-gt65536.false (sym (ap judged c.in-Counted.is) ∙ c.judge_records.ensures) c.tally.ensures)
+    rw (← counted _ c.if-input-gt65536.false c.in-Ok.ensures)
     (record { value = o.0; out_after = o.1.0; prefix_len = o.1.1 })
 
-pub returns-in-Refused : goal.returns-in-Refused
-returns-in-Refused c =
+pub returns-in-Err : goal.returns-in-Err
+returns-in-Err c =
     let o = put-over (put-laid c.put_refused.ensures.laid c.put_refused.ensures.upper_bound) (search rules) in
-    rw (← not_counted _ c.if-input-gt65536.false (sym (ap judged c.in-Refused.is) ∙ c.judge_records.ensures))
+    rw (← not_counted _ c.if-input-gt65536.false c.in-Err.ensures)
     (record { value = o.0; out_after = o.1.0; prefix_len = o.1.1 })

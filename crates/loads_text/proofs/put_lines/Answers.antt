@@ -1,5 +1,4 @@
--- `loads_text::put_lines` meets its contract. The invariant: the lines of the months that are still to come, after the text so far, make the text
--- that is promised. The measure is how many months they are.
+-- `loads_text::put_lines` meets its contract: the line of a month more, and of all months.
 use Prim.Native.Nat.{◌+◌}
 use mathlib.Core.Path.{refl}
 use native.Mathlib.Omega.{arith}
@@ -12,18 +11,17 @@ use Rattle.loads_text.proofs.Rows.{lines_more, lines_none}
 use Rattle.loads_text.proofs.put_lines.Goals as goal
 
 pub loop-m-init : goal.loop-m-init
-loop-m-init c = (search rules, search rules, refl, refl)
+loop-m-init c = (omega arith, refl)
 
 pub loop-m-preserved : goal.loop-m-preserved
 loop-m-preserved c =
-    let put = c.put_month-end in
+    let put = c.put_month-end.ensures in
     let l = c.loop-m in
     let table = c.args.table in
-    (omega arith, omega (arith, put.ensures.bound), search rules, on _ (lines_from (l.m + 1 + 1) (drop (l.m + 1) table)) (lines_more table l.m (search rules)) l.invariant.3 put.ensures)
+    (omega (arith, put.bound), on _ (lines_from (l.m + 1 + 1) (drop (l.m + 1) table)) (lines_more table l.m (search rules)) l.invariant.1 put)
 
 pub returns : goal.returns
 unfolding grown
 returns c =
     let l = c.loop-m in
-    let table = c.args.table in
-    record { right = rw (lines_none table (l.m + 1) l.m (search rules)) at l.invariant.3; bound = omega arith }
+    record { right = rw (lines_none c.args.table (l.m + 1) l.m (search rules)) at l.invariant.1; bound = omega arith }
