@@ -1,18 +1,17 @@
 -- ASCII by the block and by the run, and that it is UTF-8. Assumes nothing.
 use Prim.Native.Nat.{ℕ, zero, suc, ◌+◌, ◌-◌, ◌≤◌, ◌<◌}
-use mathlib.Core.Path.{◌≡◌}
+use mathlib.Core.Path.{◌≡◌, sym, ◌∙◌}
 use mathlib.Core.Logic.{◌↔◌, ⊎_elim}
-use mathlib.Core.List.{List, [], ◌∷◌}
+use mathlib.Core.List.{List, [], ◌∷◌, ◌++◌, append-nil}
 use native.Mathlib.Omega.{arith}
 use borrow.Author.Count.{below_more}
 use lib.Bits.{bit_or, or_add_and, and_le_l, and_le_r, or_lt}
 use lib.ListN.{length, get_or, take, drop, length-drop}
-use lib.Seq.{length-take-le}
 use Rattle.paper.specs.Utf8.{Utf8, none, more, utf8_1}
 use Rattle.paper.proofs.Choice.{cut}
 use Rattle.utf8.specs.Valid.{Valid}
 use Rattle.utf8.specs.Ascii.{AsciiTo, Ascii, AsciiStart, AsciiRun, AsciiEnd}
-use Rattle.utf8.proofs.Valid.{part_at}
+use Rattle.utf8.proofs.Valid.{rest_of, part_within, in_part}
 
 -- one byte more: the bits of two bytes together are below 0x80 where both are
 pub bits_turn : (s : List ℕ) (i bits : ℕ) → (bits < 0x80) ↔ AsciiTo s i → (bit_or bits (get_or s i 0) < 0x80) ↔ AsciiTo s (i + 1)
@@ -23,22 +22,23 @@ bits_turn s i bits h =
       (λ k. or_lt 7 bits b (h.1 (λ j l. k j (omega arith))) (k i (omega arith))),
     )
 
--- a part of s that is ASCII, from place a up to e: so are these bytes of s
-in_part : (s : List ℕ) (a e : ℕ) → e ≤ length s → Ascii (take (e - a) (drop a s)) → (i : ℕ) → a ≤ i → i < e → get_or s i 0 < 0x80
-in_part s a e l b i j k =
-    let p : length (take (e - a) (drop a s)) ≡ e - a = length-take-le (e - a) (drop a s) (omega (arith, length-drop a s)) in
-    rw (← part_at s a (e - a) i j (omega arith)) (b (i - a) (omega arith))
-
--- one block more, which the code lends as this part of s
-pub more-ascii : {s : List ℕ} {at : ℕ} (n : ℕ) → AsciiStart s at → n ≤ length s - at → Ascii (take (at + n - at) (drop at s)) → AsciiStart s (at + n)
-more-ascii {s} {at} n h l b = record {
-  within = omega (arith, h.within);
-  ascii = λ i j. ⊎_elim (h.ascii i) (λ k. in_part s at (at + n) (omega (arith, h.within)) b i k j) (cut i at);
+-- one block more, which the code lends as b
+pub more-ascii : {s : List ℕ} {at : ℕ} (n : ℕ) (b u : List ℕ) → AsciiStart s at → drop at s ≡ b ++ u → length b ≡ n → Ascii b → AsciiStart s (at + n)
+more-ascii {s} {at} n b u h p e f = record {
+  within = part_within s at n b u h.within p e;
+  ascii = λ i j. ⊎_elim (h.ascii i) (λ k. rw (in_part s at n b u p e i k j) (f (i - at) (omega arith))) (cut i at);
 }
 
 -- the last block, which the code lends as this part of s
 pub ascii_end : (s : List ℕ) (n : ℕ) → n ≤ length s → Ascii (take (length s - (length s - n)) (drop (length s - n) s)) → AsciiEnd s n
-ascii_end s n l b = record { within = l; ascii = λ i j k. in_part s (length s - n) (length s) (omega arith) b i k j }
+ascii_end s n l b = record {
+  within = l;
+  ascii = λ i j k.
+      let p : drop (length s - n) s ≡ take (length s - (length s - n)) (drop (length s - n) s) ++ [] =
+      sym (rest_of s (length s - n)) ∙ sym (append-nil _) in
+      let long : length (take (length s - (length s - n)) (drop (length s - n) s)) ≡ n = rw rest_of (omega (arith, length-drop (length s - n) s)) in
+      rw (in_part s (length s - n) n _ [] p long i k (omega arith)) (b (i - (length s - n)) (omega arith));
+}
 
 -- what is passed, and a last block that reaches back to it, are all of s
 pub all_passed : {s : List ℕ} {at n : ℕ} → AsciiStart s at → length s - at ≤ n → AsciiEnd s n → AsciiStart s (length s)

@@ -159,16 +159,18 @@ in_part s a m l h i t j =
     before : (k : ℕ) → k ≤ 3 → get_or (take m (drop a s)) (i - a - k) 0 ≡ get_or s (i - k) 0
     before k l = rw sub_right_comm (part_at s a m (i - k) (omega arith) (omega arith))
 
--- one block more, which the code lends as this part of s, with the three bytes before it
-pub more-fits : {s : List ℕ} {at : ℕ} (n : ℕ) → Fitting s at → n ≤ length s - at → AllFit (take (at + n - (at - 3)) (drop (at - 3) s)) → Fitting s (at + n)
-more-fits {s} {at} n h l b =
+-- one block more, which the code lends as b with the three bytes before it
+pub more-fits : {s : List ℕ} {at : ℕ} (n : ℕ) (b : List ℕ) → Fitting s at → n + 3 ≤ length (drop (at - 3) s) → b ≡ take (n + 3) (drop (at - 3) s) → AllFit b
+    → Fitting s (at + n)
+more-fits {s} {at} n b h l p f =
     let t = h.three in
     let w = h.within in
+    let d = length-drop (at - 3) s in
     record {
       three = omega arith;
       within = omega arith;
       start = h.start;
-      fit = λ i j k. ⊎_elim (λ m. h.fit i m k) (λ m. in_part s (at - 3) (at + n - (at - 3)) (omega arith) b i (omega arith) (omega arith)) (cut i at);
+      fit = λ i j k. ⊎_elim (λ m. h.fit i m k) (λ m. in_part s (at - 3) (n + 3) (omega arith) (rw p at f) i (omega arith) (omega arith)) (cut i at);
     }
 
 -- ---- the text that fits

@@ -2,23 +2,24 @@
 use Prim.Native.Nat.{ℕ, zero, suc, ◌+◌, ◌-◌, ◌*◌, ◌≤◌, ◌<◌}
 use mathlib.Core.Path.{◌≡◌, refl, ap, sym, ◌∙◌}
 use mathlib.Core.Bool.{Bool, true, false}
-use mathlib.Core.List.{List, [], ◌∷◌}
-use native.Mathlib.Numerals.{add-one}
+use mathlib.Core.Logic.{◌⊎◌, inl, inr, ⊎_elim}
+use mathlib.Core.List.{List, [], ◌∷◌, ◌++◌}
 use native.Mathlib.Omega.{arith}
 use native.Mathlib.Nat.{add-zero, add-suc, suc-add}
 use borrow.Author.Tests.{eqb-true}
 use lib.Dec.{eqb}
-use lib.ListN.{length, get_or, drop}
-use lib.Seq.{drop-cons}
-use Rattle.paper.specs.Choice.{pick}
+use lib.ListN.{length, get_or, drop, length-drop}
+use Rattle.paper.specs.Choice.{pick, both}
 use Rattle.paper.specs.LeadBytes.{Class, no_lead, ascii, two_bytes, lead_e0, three_bytes, lead_ed, lead_f0, four_bytes, lead_f4, class_of, size_of, following, length_by}
-use Rattle.paper.specs.Utf8.{begins, char_length}
+use Rattle.paper.specs.Utf8.{in_range, begins, char_length}
 use Rattle.paper.proofs.LeadBytes.{lead_class}
 use Rattle.utf8.specs.Character.{Lead}
-use Rattle.utf8.specs.LeadBytes.{number, numbered, entry, RowRight, Begins}
+use Rattle.utf8.specs.declared.lead_bytes.Class as ours
+use Rattle.utf8.specs.declared.lead_bytes.Class.TheVariants.{NoLead, Ascii, LeadE0, ThreeBytes, LeadEd, LeadF0, FourBytes, LeadF4, TwoBytes}
+use Rattle.utf8.specs.LeadBytes.{number, numbered, seen, entry, RowRight, Begins}
 use Rattle.utf8.specs.Valid.{Valid, Step}
-use Rattle.utf8.proofs.Valid.{onward}
-use Rattle.utf8.proofs.Character.{each, full, by_lead}
+use Rattle.utf8.proofs.Valid.{begun, onward}
+use Rattle.utf8.proofs.Character.{short}
 use Rattle.utf8.proofs.Longest.{character_step}
 
 -- ---- the rule of a row
@@ -95,64 +96,104 @@ number_back four_bytes = refl
 number_back lead_f4 = refl
 number_back two_bytes = refl
 
--- no class has a higher number than the last
-last_class : (k : Class) → 8 ≤ number k → 8 ≡ number k
-last_class no_lead h = absurd (omega arith)
-last_class ascii h = absurd (omega arith)
-last_class lead_e0 h = absurd (omega arith)
-last_class three_bytes h = absurd (omega arith)
-last_class lead_ed h = absurd (omega arith)
-last_class lead_f0 h = absurd (omega arith)
-last_class four_bytes h = absurd (omega arith)
-last_class lead_f4 h = absurd (omega arith)
-last_class two_bytes h = refl
+-- two of our classes that are the same one of the paper's are one
+back : Class → ours.Class
+back no_lead = NoLead
+back ascii = Ascii
+back lead_e0 = LeadE0
+back three_bytes = ThreeBytes
+back lead_ed = LeadEd
+back lead_f0 = LeadF0
+back four_bytes = FourBytes
+back lead_f4 = LeadF4
+back two_bytes = TwoBytes
 
-pub is_last : (b : ℕ) {class : ℕ} → class ≡ number (class_of b) → 8 ≤ class → 8 ≡ number (class_of b)
-is_last b e h = last_class (class_of b) (rw e at h)
+back_seen : (x : ours.Class) → back (seen x) ≡ x
+unfolding back
+back_seen NoLead = refl
+back_seen Ascii = refl
+back_seen LeadE0 = refl
+back_seen ThreeBytes = refl
+back_seen LeadEd = refl
+back_seen LeadF0 = refl
+back_seen FourBytes = refl
+back_seen LeadF4 = refl
+back_seen TwoBytes = refl
 
--- the length by a class whose number is known
-pub as_class : (k : ℕ) {n : ℕ} → n ≡ k → (t : List ℕ) → length_by (numbered k) t ≡ length_by (numbered n) t
-as_class k e t = ap (λ (m : ℕ). length_by (numbered m) t) (sym e)
-
--- no character begins with a lead byte of another class
-pub other_class : (n : ℕ)
-    → (n ≡ 1 → ⊥) → (n ≡ 2 → ⊥) → (n ≡ 3 → ⊥) → (n ≡ 4 → ⊥) → (n ≡ 5 → ⊥) → (n ≡ 6 → ⊥) → (n ≡ 7 → ⊥) → (n ≡ 8 → ⊥)
-    → (t : List ℕ) → 0 ≡ length_by (numbered n) t
-unfolding length_by begins
-other_class zero a b c d e f g h t = refl
-other_class (suc zero) a b c d e f g h t = absurd (a refl)
-other_class (suc (suc zero)) a b c d e f g h t = absurd (b refl)
-other_class (suc (suc (suc zero))) a b c d e f g h t = absurd (c refl)
-other_class (suc (suc (suc (suc zero)))) a b c d e f g h t = absurd (d refl)
-other_class (suc (suc (suc (suc (suc zero))))) a b c d e f g h t = absurd (e refl)
-other_class (suc (suc (suc (suc (suc (suc zero)))))) a b c d e f g h t = absurd (f refl)
-other_class (suc (suc (suc (suc (suc (suc (suc zero))))))) a b c d e f g h t = absurd (g refl)
-other_class (suc (suc (suc (suc (suc (suc (suc (suc zero)))))))) a b c d e f g h t = absurd (h refl)
-other_class (suc (suc (suc (suc (suc (suc (suc (suc (suc n))))))))) a b c d e f g h t = refl
+pub seen_once : (x y : ours.Class) → seen x ≡ seen y → x ≡ y
+seen_once x y e = sym (back_seen x) ∙ ap back e ∙ back_seen y
 
 -- ---- a text by its lead byte's class
--- what is found for the number of the lead byte's class is found for the text
-pub by_number : {class n : ℕ} (b : ℕ) (t : List ℕ) → class ≡ number (class_of b) → n ≡ length_by (numbered class) t → n ≡ char_length (b ∷ t)
-by_number b t e f = f ∙ ap (λ (k : Class). length_by k t) (ap numbered e ∙ number_back (class_of b)) ∙ sym (lead_class b t)
+-- what is found for the lead byte's class is found for the text
+pub by_class : {k : Class} {n : ℕ} (b : ℕ) (t : List ℕ) → k ≡ class_of b → n ≡ length_by k t → n ≡ char_length (b ∷ t)
+by_class b t e f = f ∙ ap (λ (k : Class). length_by k t) e ∙ sym (lead_class b t)
 
 -- so at the start of s
-pub first_character : {lead class n : ℕ} (s : List ℕ) → Lead lead s → class ≡ number (class_of lead) → n ≡ length_by (numbered class) (drop 1 s) → n ≡ char_length s
-first_character {lead} s h e f = by_lead s h (sym (by_number lead (drop 1 s) e f))
+pub first_character : {k : Class} {n : ℕ} (s : List ℕ) → Begins k s → n ≡ length_by k (drop 1 s) → n ≡ char_length s
+first_character [] h f = absurd (omega (arith, h.some))
+first_character (b ∷ s) h f = by_class b s h.is f
 
--- ---- a run of characters of one class, which has the number k
--- s begins with one where its lead byte says so
-pub begins-with : (k : ℕ) {lead : ℕ} {s : List ℕ} → Lead lead s → k ≡ number (class_of lead) → Begins k s
-begins-with k h e = record { some = h.some; is = e ∙ ap (λ (b : ℕ). number (class_of b)) h.is }
+pub begins-with : {k : Class} {a : ℕ} {s : List ℕ} → Lead a s → k ≡ class_of a → Begins k s
+begins-with h e = record { some = h.some; is = e ∙ ap class_of h.is }
 
--- one more of them
-pub one_more_lem : (k : ℕ) {s : List ℕ} {at : ℕ} → Valid s at → k ≡ number (class_of (get_or s at 0)) → at + suc (length (following (numbered k))) ≤ length s
-    → each (following (numbered k)) s (at + 1) ≡ true → Valid s (at + size_of (numbered k))
+-- ---- a run of characters of one class
+-- a character is as long as its class says, or there is none
+some_length : (k : Class) (t : List ℕ) → (length_by k t ≡ 0) ⊎ (length_by k t ≡ size_of k)
 unfolding length_by
-one_more_lem k {s} {at} h e l t =
-    let p : drop at s ≡ get_or s at 0 ∷ drop (at + 1) s = rw (add-one at) (drop-cons s at 0 (omega arith)) in
-    let b : begins (following (numbered k)) (drop (at + 1) s) ≡ true = full (following (numbered k)) s (at + 1) (omega arith) ∙ t in
-    onward h (rw p (character_step {n = size_of (numbered k)} (by_number (get_or s at 0) (drop (at + 1) s) e (rw b refl))).valid)
+some_length k t = elim (begins (following k) t) as (λ b. (pick b (size_of k) 0 ≡ 0) ⊎ (pick b (size_of k) 0 ≡ size_of k)) [ true ↦ inr refl | false ↦ inl refl ]
 
--- the run ends: where it has not begun, a character of that class does not begin s
-pub run_ends : (k : ℕ) {s : List ℕ} {at : ℕ} → Begins k s → Valid s at → (at ≡ 0 → 0 ≡ length_by (numbered k) (drop 1 s)) → Step s at
-run_ends k {s} b h f = record { valid = h; stuck = λ z. sym (first_character s record { some = b.some; is = refl } b.is (f z)) }
+-- all of a character's bytes but the first follow it
+follow : (k : Class) → 0 < size_of k → length (following k) + 1 ≡ size_of k
+follow no_lead h = absurd (omega arith)
+follow ascii h = refl
+follow two_bytes h = refl
+follow lead_e0 h = refl
+follow three_bytes h = refl
+follow lead_ed h = refl
+follow lead_f0 h = refl
+follow four_bytes h = refl
+follow lead_f4 h = refl
+
+-- what is not asked of a text's end is not asked of what comes after it
+begins-append : (rs : List (ℕ × ℕ)) (t u : List ℕ) → length rs ≤ length t → begins rs (t ++ u) ≡ begins rs t
+unfolding begins
+begins-append [] t u h = refl
+begins-append (r ∷ rs) [] u h = absurd (omega arith)
+begins-append (r ∷ rs) (b ∷ t) u h = ap (both (in_range r b)) (begins-append rs t u (omega arith))
+
+-- the code lends what is left of s as c, of the size of a character, and u
+pub one_more_lem : {k : Class} {s : List ℕ} (c u : List ℕ) {at m n : ℕ} → Valid s at → drop at s ≡ c ++ u → 0 < m → length c ≡ m → size_of k ≡ m → k ≡ class_of (get_or c 0 0)
+    → n ≡ length_by k (drop 1 c) → (n ≡ 0 → ⊥) → Valid s (at + m)
+one_more_lem {k} c u {m = m} {n} h p l e g b f z =
+    let size : n ≡ m = ⊎_elim (λ (y : length_by k (drop 1 c) ≡ 0). absurd (z (f ∙ y))) (λ y. f ∙ y ∙ g) (some_length k (drop 1 c)) in
+    let v = (character_step (first_character c record { some = omega arith; is = b } f)).valid in
+    onward h (rw (p, ← size) (begun u v))
+
+-- the run ends: where it has not begun, a character of its class does not begin s
+run_ends : {k : Class} {s : List ℕ} {at : ℕ} → Begins k s → Valid s at → (at ≡ 0 → 0 ≡ length_by k (drop 1 s)) → Step s at
+run_ends {s = s} b h f = record { valid = h; stuck = λ z. sym (first_character s b (f z)) }
+
+-- where no character of the class begins c, none begins s
+none_begins : (k : Class) {s : List ℕ} (c u : List ℕ) → s ≡ c ++ u → 0 < length c → length c ≡ size_of k → 0 ≡ length_by k (drop 1 c) → 0 ≡ length_by k (drop 1 s)
+unfolding length_by
+none_begins k [] u p l e f = absurd (omega arith)
+none_begins k (b ∷ c) u p l e f = rw (p, begins-append (following k) c u (omega (arith, follow k (omega arith)))) f
+
+same_first : {s : List ℕ} (c u : List ℕ) → s ≡ c ++ u → 0 < length c → get_or s 0 0 ≡ get_or c 0 0
+same_first [] u p l = absurd (omega arith)
+same_first (b ∷ c) u p l = ap (λ (t : List ℕ). get_or t 0 0) p
+
+pub run_stops : {k : Class} {s : List ℕ} (c u : List ℕ) {at m : ℕ} → Begins k s → Valid s at → drop at s ≡ c ++ u → 0 < m → length c ≡ m → size_of k ≡ m
+    → (k ≡ class_of (get_or c 0 0) → 0 ≡ length_by k (drop 1 c)) → Step s at
+run_stops {k} {s} c u b h p l e g f =
+    run_ends b h (λ z.
+    let q : s ≡ c ++ u = rw z at p in
+    none_begins k c u q (omega arith) (e ∙ sym g) (f (b.is ∙ ap class_of (same_first c u q (omega arith)))))
+
+-- s ends before one more character does
+too_short : (k : Class) (s : List ℕ) → 0 < length s → length s < size_of k → 0 ≡ length_by k (drop 1 s)
+unfolding length_by
+too_short k s h l = simp (short (following k) (drop 1 s) (omega (arith, length-drop 1 s, follow k (omega arith))))
+
+pub run_is_cut : {k : Class} {s u : List ℕ} {at m : ℕ} → Begins k s → Valid s at → drop at s ≡ u → length u < m → size_of k ≡ m → Step s at
+run_is_cut {k} {s} {u} b h p l g = run_ends b h (λ z. let q : s ≡ u = rw z at p in too_short k s b.some (omega (arith, ap length q)))

@@ -1,5 +1,7 @@
 -- How the table holds the classes of the paper, and what its rows are.
 use Rattle.std.specs.Prelude.{ℕ, ◌+◌, ◌*◌, ◌/◌, ◌%◌, ◌^◌, ◌<◌, ◌≡◌, List, [], ◌∷◌, length, get_or}
+use Rattle.utf8.specs.declared.lead_bytes.Class as ours
+use Rattle.utf8.specs.declared.lead_bytes.Class.TheVariants.{NoLead, Ascii, LeadE0, ThreeBytes, LeadEd, LeadF0, FourBytes, LeadF4, TwoBytes}
 use Rattle.paper.specs.LeadBytes.{Class, no_lead, ascii, two_bytes, lead_e0, three_bytes, lead_ed, lead_f0, four_bytes, lead_f4, class_of}
 
 -- the number that stands for a class in the table; the highest is that of most letters that are not ASCII
@@ -18,6 +20,18 @@ number two_bytes = 8
 abbrev pub numbered : ℕ → Class
 numbered n = get_or (no_lead ∷ ascii ∷ lead_e0 ∷ three_bytes ∷ lead_ed ∷ lead_f0 ∷ four_bytes ∷ lead_f4 ∷ two_bytes ∷ []) n no_lead
 
+-- the paper's class that one of ours is
+abbrev pub seen : ours.Class → Class
+seen NoLead = no_lead
+seen Ascii = ascii
+seen LeadE0 = lead_e0
+seen ThreeBytes = three_bytes
+seen LeadEd = lead_ed
+seen LeadF0 = lead_f0
+seen FourBytes = four_bytes
+seen LeadF4 = lead_f4
+seen TwoBytes = two_bytes
+
 -- the entry in column c of a row of sixteen: the digit that has c digits, of four bits each, to its right
 abbrev pub entry : ℕ → ℕ → ℕ
 entry row c = row / 2 ^ (4 * c) % 16
@@ -26,7 +40,7 @@ entry row c = row / 2 ^ (4 * c) % 16
 pub record RowRight (high row : ℕ) : Type 0 where
   pub entries : (c : ℕ) → c < 16 → entry row c ≡ number (class_of (16 * high + c))
 
--- s begins with a lead byte whose class has the number k
-pub record Begins (k : ℕ) (s : List ℕ) : Type 0 where
+-- s begins with a lead byte of the class k
+pub record Begins (k : Class) (s : List ℕ) : Type 0 where
   pub some : 0 < length s
-  pub is : k ≡ number (class_of (get_or s 0 0))
+  pub is : k ≡ class_of (get_or s 0 0)

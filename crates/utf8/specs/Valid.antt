@@ -11,3 +11,7 @@ pub record Valid (s : List ℕ) (n : ℕ) : Type 0 where
 pub record Step (s : List ℕ) (n : ℕ) : Type 0 where
   pub valid : Valid s n
   pub stuck : n ≡ 0 → char_length s ≡ 0
+
+-- whatever a step of this kind passes of a text is such a step
+abbrev pub MakesSteps : (List ℕ → ℕ → Type 0) → Type 0
+MakesSteps passes = (s : List ℕ) (n : ℕ) → passes s n → Step s n

@@ -10,7 +10,7 @@
 //     E2 82 AC ED  true   E2, three before, would have to be F0 or more to go on; ED begins a character
 //     82 AC ED A0  false  that of ED goes on, but only up to 9F can stand after ED
 // A block that ends in `61 E2 82` fits too: `unfinished` answers 2 for it, and its whole characters end two bytes before it does.
-ghost use Rattle.std.specs.Prelude.{◌≡◌, true, ◌↔◌, ◌≤◌, ◌<◌, length};
+ghost use Rattle.std.specs.Prelude.{◌≡◌, ◌↔◌, ◌≤◌, ◌<◌, length, IsTrue, IfSome};
 ghost use Rattle.utf8.specs.Valid.{Valid};
 ghost use Rattle.utf8.specs.Ascii.{Ascii, AsciiStart, AsciiEnd};
 ghost use Rattle.utf8.specs.Fit.{Fits, AllFit, Fitting, FitStart, unfinished_of};
@@ -20,26 +20,23 @@ pub(crate) const BLOCK: usize = 64;
 
 // Whether every byte of s is ASCII, below 0x80; of an empty s too.
 fn all_ascii(s: &[u8]) -> bool
-    ensures { (result ≡ true) ↔ Ascii s.now }
+    ensures { IsTrue result ↔ Ascii s.now }
 {
     let mut bits: u8 = 0;
-    let mut i = 0;
-    while i < s.len() {
-        bits = bits | s[i];
-        i += 1;
+    for byte in s {
+        bits |= *byte;
     }
     bits < 0x80
 }
 
 // Whether the last `size` bytes of s are there and are all ASCII.
 fn ends_in_ascii(s: &[u8], size: usize) -> bool
-    ensures { result ≡ true → AsciiEnd s.now size }
+    ensures { IsTrue result → AsciiEnd s.now size }
 {
     if s.len() < size {
         return false;
     }
-    let start = s.len() - size;
-    all_ascii(&s[start..])
+    all_ascii(&s[s.len() - size..])
 }
 
 // How many bytes of ASCII s begins with, by blocks of `size` bytes; where less than a block is left, by one more that ends where s does.
@@ -49,12 +46,11 @@ pub(crate) fn ascii_blocks(s: &[u8], size: usize) -> usize
     ensures { AsciiStart s.now result }
 {
     let mut at = 0;
-    while size <= s.len() - at {
-        let end = at + size;
-        if !all_ascii(&s[at..end]) {
+    for block in s.chunks_exact(size) {
+        if !all_ascii(block) {
             return at;
         }
-        at = end;
+        at += size;
     }
     if ends_in_ascii(s, size) {
         return s.len();
@@ -65,7 +61,7 @@ pub(crate) fn ascii_blocks(s: &[u8], size: usize) -> usize
 // Whether d can stand right after a, b and c: inside a character where one of them leads a character that goes on up to d, else at the
 // start of one.
 fn fits_after(a: u8, b: u8, c: u8, d: u8) -> bool
-    ensures { (result ≡ true) ↔ Fits a b c d }
+    ensures { IsTrue result ↔ Fits a b c d }
 {
     let goes_on = (0xF0 <= a) | (0xE0 <= b) | (0xC0 <= c);
     let inside = (0x80 <= d) & (d <= 0xBF);
@@ -78,25 +74,21 @@ fn fits_after(a: u8, b: u8, c: u8, d: u8) -> bool
 
 // Whether each byte of s from the fourth on fits after the three before it; also where there is no fourth.
 fn all_fit(s: &[u8]) -> bool
-    ensures { (result ≡ true) ↔ AllFit s.now }
+    ensures { IsTrue result ↔ AllFit s.now }
 {
     let mut fit = true;
-    let mut i = 3;
-    while i < s.len() {
-        fit = fit & fits_after(s[i - 3], s[i - 2], s[i - 1], s[i]);
-        i += 1;
+    for i in 3..s.len() {
+        fit &= fits_after(s[i - 3], s[i - 2], s[i - 1], s[i]);
     }
     fit
 }
 
 // The same as `all_fit`, sooner where all of s is ASCII. `first`, a byte of s, spares most text that is not ASCII the test for it.
 fn block_fits(s: &[u8], first: u8) -> bool
-    ensures { (result ≡ true) ↔ AllFit s.now }
+    ensures { IsTrue result ↔ AllFit s.now }
 {
-    if first < 0x80 {
-        if all_ascii(s) {
-            return true;
-        }
+    if first < 0x80 && all_ascii(s) {
+        return true;
     }
     all_fit(s)
 }
@@ -108,42 +100,42 @@ fn fitting_blocks(s: &[u8], from: usize) -> usize
     ensures { Fitting s.now result }
 {
     let mut at = from;
-    while BLOCK <= s.len() - at {
-        let start = at - 3;
-        let end = at + BLOCK;
-        if !block_fits(&s[start..end], s[start]) {
+    while let Some(block) = s[at - 3..].get(..3 + BLOCK) {
+        if !block_fits(block, block[0]) {
             return at;
         }
-        at = end;
+        at += BLOCK;
     }
     at
 }
 
 // Whether a, b and c fit at the start of a text, as if zeros stood before it.
 fn start_fits(a: u8, b: u8, c: u8) -> bool
-    ensures { (result ≡ true) ↔ FitStart a b c }
+    ensures { IsTrue result ↔ FitStart a b c }
 {
     fits_after(0, 0, 0, a) & fits_after(0, 0, a, b) & fits_after(0, a, b, c)
 }
 
 // Up to where the bytes of s fit, before a block is tested: the `ascii` bytes with which s begins where they are a block or more,
-// else its first three bytes. 0 where those do not fit.
-fn fitting_start(s: &[u8], ascii: usize) -> usize
-    requires { AsciiStart s.now ascii × (3 ≤ length s.now) }
-    ensures { 0 < result → Fitting s.now result }
+// else its first three bytes, where those fit.
+fn fitting_start(s: &[u8], ascii: usize) -> Option<usize>
+    requires ascii { AsciiStart s.now ascii }
+    requires three { 3 ≤ length s.now }
+    ensures { IfSome result (Fitting s.now) }
 {
     if BLOCK <= ascii {
-        return ascii;
+        return Some(ascii);
     }
     if start_fits(s[0], s[1], s[2]) {
-        return 3;
+        return Some(3);
     }
-    0
+    None
 }
 
 // How many of a, b and c, the last bytes of a text, belong to a character that goes on after them: 0 to 3.
 fn unfinished(a: u8, b: u8, c: u8) -> usize
-    ensures { (result ≡ unfinished_of a b c) × (result ≤ 3) }
+    ensures value { result ≡ unfinished_of a b c }
+    ensures three { result ≤ 3 }
 {
     if 0xC0 <= c {
         return 1;
@@ -166,10 +158,9 @@ pub(crate) fn by_blocks(s: &[u8]) -> usize
     if s.len() - ascii < BLOCK {
         return ascii;
     }
-    let start = fitting_start(s, ascii);
-    if start == 0 {
+    let Some(start) = fitting_start(s, ascii) else {
         return 0;
-    }
+    };
     let end = fitting_blocks(s, start);
     end - unfinished(s[end - 3], s[end - 2], s[end - 1])
 }

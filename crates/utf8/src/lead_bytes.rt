@@ -3,18 +3,18 @@
 // The first byte of a character, its lead byte, says how many bytes the character has and which the second may be; those after the second are
 // from 80 to BF. Most lead bytes say the same as their neighbours do, so there are nine classes:
 //
-//     class           lead bytes             bytes   second byte
-//     0  NO_LEAD      80 to C1, F5 to FF     none    (80 to BF stand inside a character; C0 and C1 could only begin overlong forms)
-//     1  ASCII        00 to 7F               1       none
-//     2  LEAD_E0      E0                     3       A0 to BF, as 80 to 9F would make an overlong form
-//     3  THREE_BYTES  E1 to EC, EE and EF    3       80 to BF
-//     4  LEAD_ED      ED                     3       80 to 9F, as A0 to BF would make a surrogate
-//     5  LEAD_F0      F0                     4       90 to BF, as 80 to 8F would make an overlong form
-//     6  FOUR_BYTES   F1 to F3               4       80 to BF
-//     7  LEAD_F4      F4                     4       80 to 8F, as 90 to BF would make a number above 10FFFF
-//     8  TWO_BYTES    C2 to DF               2       80 to BF
+//     digit and class lead bytes             bytes   second byte
+//     0  NoLead       80 to C1, F5 to FF     none    (80 to BF stand inside a character; C0 and C1 could only begin overlong forms)
+//     1  Ascii        00 to 7F               1       none
+//     2  LeadE0       E0                     3       A0 to BF, as 80 to 9F would make an overlong form
+//     3  ThreeBytes   E1 to EC, EE and EF    3       80 to BF
+//     4  LeadEd       ED                     3       80 to 9F, as A0 to BF would make a surrogate
+//     5  LeadF0       F0                     4       90 to BF, as 80 to 8F would make an overlong form
+//     6  FourBytes    F1 to F3               4       80 to BF
+//     7  LeadF4       F4                     4       80 to 8F, as 90 to BF would make a number above 10FFFF
+//     8  TwoBytes     C2 to DF               2       80 to BF
 //
-// Two bytes have the highest number, so that one bit tells them from all others: most letters that are not ASCII have two.
+// Two bytes have the highest digit, so that one bit tells them from all others: most letters that are not ASCII have two.
 //
 // The rows of the table are written as numbers that a `match` hands out, and not as an array, because the compiler keeps such numbers in the
 // program's constant data. An array it would lay down anew at every call, which takes longer than to check a short name.
@@ -22,39 +22,39 @@
 // Of the lead byte ED, `class_of` takes the row E0 to EF, which is 3343 3333 3333 3332, and in it the digit of ED. The rightmost digit is that of
 // E0, as a number counts its digits from there; that of ED is the fourteenth: class 4.
 ghost use Rattle.std.specs.Prelude.{◌≡◌, ◌<◌};
-ghost use Rattle.paper.specs.LeadBytes.{no_lead, ascii, two_bytes, lead_e0, three_bytes, lead_ed, lead_f0, four_bytes, lead_f4, class_of};
-ghost use Rattle.utf8.specs.LeadBytes.{number, RowRight};
+ghost use Rattle.paper.specs.LeadBytes.{class_of};
+ghost use Rattle.utf8.specs.LeadBytes.{seen, numbered, RowRight};
 
-pub(crate) const NO_LEAD: u8 = 0;
+// What a lead byte says of its character; the variants stand in the order of the table's digits.
+#[derive(Clone, Copy, PartialEq, Eq)]
+pub(crate) enum Class {
+    NoLead,
+    Ascii,
+    LeadE0,
+    ThreeBytes,
+    LeadEd,
+    LeadF0,
+    FourBytes,
+    LeadF4,
+    TwoBytes,
+}
 
-pub(crate) const ASCII: u8 = 1;
-
-pub(crate) const LEAD_E0: u8 = 2;
-
-pub(crate) const THREE_BYTES: u8 = 3;
-
-pub(crate) const LEAD_ED: u8 = 4;
-
-pub(crate) const LEAD_F0: u8 = 5;
-
-pub(crate) const FOUR_BYTES: u8 = 6;
-
-pub(crate) const LEAD_F4: u8 = 7;
-
-pub(crate) const TWO_BYTES: u8 = 8;
-
-// Each name stands for the number of the paper's class.
-fn constants()
-    ensures no_lead_value { NO_LEAD ≡ number no_lead }
-    ensures value { ASCII ≡ number ascii }
-    ensures lead_e0_value { LEAD_E0 ≡ number lead_e0 }
-    ensures three_bytes_value { THREE_BYTES ≡ number three_bytes }
-    ensures lead_ed_value { LEAD_ED ≡ number lead_ed }
-    ensures lead_f0_value { LEAD_F0 ≡ number lead_f0 }
-    ensures four_bytes_value { FOUR_BYTES ≡ number four_bytes }
-    ensures lead_f4_value { LEAD_F4 ≡ number lead_f4 }
-    ensures two_bytes_value { TWO_BYTES ≡ number two_bytes }
-{}
+// The class that a digit of the table stands for.
+fn class_numbered(digit: u64) -> Class
+    ensures { seen result ≡ numbered digit }
+{
+    match digit {
+        1 => Class::Ascii,
+        2 => Class::LeadE0,
+        3 => Class::ThreeBytes,
+        4 => Class::LeadEd,
+        5 => Class::LeadF0,
+        6 => Class::FourBytes,
+        7 => Class::LeadF4,
+        8 => Class::TwoBytes,
+        _ => Class::NoLead,
+    }
+}
 
 // The table, in rows of sixteen: the row of the lead bytes that begin with the hexadecimal digit `high`. Each digit of a row is the class of one
 // lead byte, from right to left: in the row C0 to CF the first two lead nothing, and the fourteen after them lead two bytes.
@@ -83,9 +83,9 @@ fn row(high: u8) -> u64
 }
 
 // The class of a lead byte: its digit of its row. A digit has four bits.
-pub(crate) fn class_of(lead: u8) -> u8
-    ensures { result ≡ number (class_of lead) }
+pub(crate) fn class_of(lead: u8) -> Class
+    ensures { seen result ≡ class_of lead }
 {
-    let place = 4 * (lead % 16) as u64;
-    ((row(lead / 16) >> place) % 16) as u8
+    let place = 4 * (lead % 16);
+    class_numbered((row(lead / 16) >> place) % 16)
 }

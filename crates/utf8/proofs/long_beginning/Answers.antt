@@ -3,4 +3,4 @@ use Rattle.utf8.proofs.Longest.{longest_on}
 use Rattle.utf8.proofs.long_beginning.Goals as goal
 
 pub returns : goal.returns
-returns c = longest_on c.by_blocks-at.ensures c.by_characters.ensures
+returns g c = longest_on c.by_blocks-at.ensures c.by_characters.ensures

@@ -1,17 +1,12 @@
 -- `all_fit` meets its contract: each byte passed fits exactly where none was found that does not.
-use mathlib.Core.Path.{refl}
-use native.Mathlib.Omega.{arith}
-use borrow.Author.Rules.{rules}
+use Rattle.std.proofs.Common.{arith}
 use Rattle.utf8.proofs.Fit.{fit_turn}
 use Rattle.utf8.proofs.blocks.all_fit.Goals as goal
-
-pub loop-i-init : goal.loop-i-init
-loop-i-init c = (((λ e i l t. absurd (omega arith)), λ _. refl), search rules, search rules)
 
 pub loop-i-preserved : goal.loop-i-preserved
 loop-i-preserved c =
     let o = c.loop-i in
-    (fit_turn c.args.s.now o.i o.fit c.fits_after-fit.result (omega arith) o.invariant.0 c.fits_after-fit.ensures, search rules, search rules)
+    (fit_turn c.args.s.now o.i o.fit c.fits_after-fit.result (omega arith) o.invariant.0 c.fits_after-fit.ensures, omega arith)
 
 pub returns : goal.returns
 returns c =

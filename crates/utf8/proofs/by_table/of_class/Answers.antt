@@ -1,44 +1,41 @@
 -- `of_class` meets its contract: a class says how many bytes follow, and which the second may be.
-use mathlib.Core.Path.{◌∙◌}
-use lib.ListN.{drop}
+use Rattle.std.proofs.Common.{refl}
 use Rattle.paper.specs.Utf8.{begins}
 use Rattle.paper.specs.LeadBytes.{length_by}
-use Rattle.utf8.proofs.LeadBytes.{as_class, other_class}
 use Rattle.utf8.proofs.by_table.of_class.Goals as goal
 
-pub returns-then-class-eq-ASCII : goal.returns-then-class-eq-ASCII
+pub returns-in-NoLead : goal.returns-in-NoLead
 unfolding length_by begins
-returns-then-class-eq-ASCII c = as_class 1 c.if-class-eq-ASCII.true (drop 1 c.args.s.now)
+returns-in-NoLead c = rw c.in-NoLead.is refl
 
-pub returns-then-class-eq-TWO_BYTES : goal.returns-then-class-eq-TWO_BYTES
+pub returns-in-Ascii : goal.returns-in-Ascii
+unfolding length_by begins
+returns-in-Ascii c = rw c.in-Ascii.is refl
+
+pub returns-in-TwoBytes : goal.returns-in-TwoBytes
 unfolding length_by
-returns-then-class-eq-TWO_BYTES c = c.two_bytes.ensures ∙ as_class 8 c.if-class-eq-TWO_BYTES.true _
+returns-in-TwoBytes c = rw c.in-TwoBytes.is c.sized.ensures
 
-pub returns-then-class-eq-LEAD_E0 : goal.returns-then-class-eq-LEAD_E0
+pub returns-in-LeadE0 : goal.returns-in-LeadE0
 unfolding length_by
-returns-then-class-eq-LEAD_E0 c = c.three_bytes.ensures ∙ as_class 2 c.if-class-eq-LEAD_E0.true _
+returns-in-LeadE0 c = rw c.in-LeadE0.is c.sized-in-LeadE0.ensures
 
-pub returns-then-class-eq-THREE_BYTES : goal.returns-then-class-eq-THREE_BYTES
+pub returns-in-ThreeBytes : goal.returns-in-ThreeBytes
 unfolding length_by
-returns-then-class-eq-THREE_BYTES c = c.three_bytes-then-class-eq-THREE_BYTES.ensures ∙ as_class 3 c.if-class-eq-THREE_BYTES.true _
+returns-in-ThreeBytes c = rw c.in-ThreeBytes.is c.sized-in-ThreeBytes.ensures
 
-pub returns-then-class-eq-LEAD_ED : goal.returns-then-class-eq-LEAD_ED
+pub returns-in-LeadEd : goal.returns-in-LeadEd
 unfolding length_by
-returns-then-class-eq-LEAD_ED c = c.three_bytes-then-class-eq-LEAD_ED.ensures ∙ as_class 4 c.if-class-eq-LEAD_ED.true _
+returns-in-LeadEd c = rw c.in-LeadEd.is c.sized-in-LeadEd.ensures
 
-pub returns-then-class-eq-LEAD_F0 : goal.returns-then-class-eq-LEAD_F0
+pub returns-in-LeadF0 : goal.returns-in-LeadF0
 unfolding length_by
-returns-then-class-eq-LEAD_F0 c = c.four_bytes.ensures ∙ as_class 5 c.if-class-eq-LEAD_F0.true _
+returns-in-LeadF0 c = rw c.in-LeadF0.is c.sized-in-LeadF0.ensures
 
-pub returns-then-class-eq-FOUR_BYTES : goal.returns-then-class-eq-FOUR_BYTES
+pub returns-in-FourBytes : goal.returns-in-FourBytes
 unfolding length_by
-returns-then-class-eq-FOUR_BYTES c = c.four_bytes-then-class-eq-FOUR_BYTES.ensures ∙ as_class 6 c.if-class-eq-FOUR_BYTES.true _
+returns-in-FourBytes c = rw c.in-FourBytes.is c.sized-in-FourBytes.ensures
 
-pub returns-then-class-eq-LEAD_F4 : goal.returns-then-class-eq-LEAD_F4
+pub returns-in-LeadF4 : goal.returns-in-LeadF4
 unfolding length_by
-returns-then-class-eq-LEAD_F4 c = c.four_bytes-then-class-eq-LEAD_F4.ensures ∙ as_class 7 c.if-class-eq-LEAD_F4.true _
-
-pub returns : goal.returns
-returns c =
-    let x = c.args in
-    other_class x.class c.if-class-eq-ASCII.false c.if-class-eq-LEAD_E0.false c.if-class-eq-THREE_BYTES.false c.if-class-eq-LEAD_ED.false c.if-class-eq-LEAD_F0.false c.if-class-eq-FOUR_BYTES.false c.if-class-eq-LEAD_F4.false c.if-class-eq-TWO_BYTES.false (drop 1 x.s.now)
+returns-in-LeadF4 c = rw c.in-LeadF4.is c.sized-in-LeadF4.ensures
