@@ -1,27 +1,19 @@
 -- `desk_check::desk_check` meets its contract: the reader's refusal, then what is left over, then the rule.
-use mathlib.Core.Path.{sym, ap, subst, ◌∙◌}
-use borrow.Author.Rules.{rules}
-use Rattle.wire.proofs.Left.{left}
-use Rattle.request_file_transfer.specs.Reading.{seen_request, RequestRight}
-use Rattle.request_file_transfer.specs.declared.read.RequestAnswer.{RequestAnswer}
+use mathlib.Core.Path.{sym, ◌∙◌}
+use Rattle.std.proofs.lemmas.Result.{err_from_is_err_and}
 use Rattle.desk_check.proofs.Judged.{unread, left_over_lem, by_rule}
 use Rattle.desk_check.proofs.desk_check.Goals as goal
 
-pub returns-in_default : goal.returns-in_default
-returns-in_default c = unread _ (left c.read_request-a.ensures (ap seen_request c.in_default.is) c.refusal.ensures)
-
-pub overflow_sub-left : goal.overflow_sub-left
-overflow_sub-left c = let h = (let it : let s = c.args.request.now in
-    RequestRight s (RequestAnswer.Accepted c.in-Accepted.q c.in-Accepted.tail) = subst (RequestRight _) c.in-Accepted.is c.read_request-a.ensures in it).place.within in search rules
+pub returns-in_err-q : goal.returns-in_err-q
+returns-in_err-q c =
+    let (y, same, made) = err_from_is_err_and c.from_residual.result c.from_residual.ensures.1 in
+    rw (same, made) (unread _ c.in_err-q.ensures.paper)
 
 pub returns-then-left-gt0 : goal.returns-then-left-gt0
-returns-then-left-gt0 c = left_over_lem _ c.in-Accepted.tail (let it : let s = c.args.request.now in
-    RequestRight s (RequestAnswer.Accepted c.in-Accepted.q c.in-Accepted.tail) = subst (RequestRight _) c.in-Accepted.is c.read_request-a.ensures in it).paper c.if-left-gt0.true
+returns-then-left-gt0 c = left_over_lem _ c.in_ok-q.tail c.in_ok-q.ensures.paper c.if-left-gt0.true
 
-pub returns-then-passes : goal.returns-then-passes
-returns-then-passes c = by_rule _ c.in-Accepted.tail (let it : let s = c.args.request.now in
-    RequestRight s (RequestAnswer.Accepted c.in-Accepted.q c.in-Accepted.tail) = subst (RequestRight _) c.in-Accepted.is c.read_request-a.ensures in it).paper c.if-left-gt0.false (sym c.if-passes.true ∙ c.passes.ensures _)
+pub returns-then-not-passes : goal.returns-then-not-passes
+returns-then-not-passes c = by_rule _ c.in_ok-q.tail c.in_ok-q.ensures.paper c.if-left-gt0.false (sym c.if-not-passes.true ∙ c.passes.ensures _)
 
-pub returns-else-passes : goal.returns-else-passes
-returns-else-passes c = by_rule _ c.in-Accepted.tail (let it : let s = c.args.request.now in
-    RequestRight s (RequestAnswer.Accepted c.in-Accepted.q c.in-Accepted.tail) = subst (RequestRight _) c.in-Accepted.is c.read_request-a.ensures in it).paper c.if-left-gt0.false (sym c.if-passes.false ∙ c.passes.ensures _)
+pub returns : goal.returns
+returns c = by_rule _ c.in_ok-q.tail c.in_ok-q.ensures.paper c.if-left-gt0.false (sym c.if-not-passes.false ∙ c.passes.ensures _)

@@ -1,19 +1,14 @@
--- `desk_check::passes` meets its contract: the kind's row of the table, and then the format byte, decide which case of the rule it is.
-use mathlib.Core.Path.{refl, sym, ap, ◌∙◌}
-use borrow.Author.Tests.{eq-eqb, ne_eqb}
+-- `desk_check::passes` meets its contract: of a kind with sizes under format byte 0x00, whether these are equal.
+use mathlib.Core.Path.{sym, ap, ◌∙◌}
+use borrow.Author.Rules.{rules}
+use borrow.Author.Tests.{eq-eqb}
 use Rattle.request_file_transfer.specs.Layout.{layout_of}
+use Rattle.desk_check.proofs.Judged.{by_halves}
 use Rattle.desk_check.proofs.passes.Goals as goal
 
-pub returns-then-value-ne0 : goal.returns-then-value-ne0
-returns-then-value-ne0 c s =
-    rw (sym c.after_name.ensures ∙ ap layout_of c.in-FormatAndSizes.is, ← c.value.ensures, ne_eqb _ 0 c.if-value-ne0.true) refl
-
-pub returns-else-value-ne0 : goal.returns-else-value-ne0
-returns-else-value-ne0 c s =
-    rw (sym c.after_name.ensures ∙ ap layout_of c.in-FormatAndSizes.is, ← c.value.ensures, eq-eqb _ 0 c.if-value-ne0.false) c.equal.ensures
-
-pub returns-in-Nothing : goal.returns-in-Nothing
-returns-in-Nothing c s = rw (sym c.after_name.ensures ∙ ap layout_of c.in-Nothing.is) refl
-
-pub returns-in-FormatOnly : goal.returns-in-FormatOnly
-returns-in-FormatOnly c s = rw (sym c.after_name.ensures ∙ ap layout_of c.in-FormatOnly.is) refl
+pub returns-else-from-ne0 : goal.returns-else-from-ne0
+returns-else-from-ne0 c s =
+    let u = c.args.q.size.file_size_uncompressed in
+    let z = c.args.q.size.file_size_compressed in
+    rw (sym c.after_name.ensures ∙ ap layout_of c.in-FormatAndSizes.is, ← c.from.ensures, eq-eqb _ 0 c.if-from-ne0.false, ← by_halves z.high z.low u.high u.low (search rules) (search rules))
+    c.eq.ensures
