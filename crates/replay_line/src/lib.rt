@@ -9,10 +9,10 @@ ghost use Rattle.ascii_text.specs.Text.{Put};
 ghost use Rattle.replay.specs.Replay.{last_of, transfer_of, state_of, ended_said};
 
 use ascii_text::{put_decimal, put_field, put_refused};
-use replay::{Last, ReplayAnswer, State, Transfer, run};
+use replay::{State, Stopped, Transfer, run};
 use wire::write::{put_byte, put_bytes};
 
-// Room for a log: one record more than it may have, so that a longer one is seen to have too many. All zeros.
+// Room for a log: one record more than it may have, so that a longer one is seen to have too many. All zeros. A length stands beside it, since no heap is used.
 pub fn room() -> [u8; 262148]
     ensures value { 262148 ≡ length result }
     ensures value_2 { result ≡ replicate 262148 0 }
@@ -21,15 +21,15 @@ pub fn room() -> [u8; 262148]
 }
 
 // The last counter, or a dash where there is none.
-fn put_last(last: Last, out: &mut [u8]) -> usize
+fn put_last(last: Option<u8>, out: &mut [u8]) -> usize
     ensures { Put (last_text (last_of last)) result 20 out.old out.new }
 {
     match last {
-        Last::Nothing => {
-            put_byte(b'-', out);
+        None => {
+            let _ = put_byte(b'-', out);
             1
         }
-        Last::Counter(c) => put_decimal(c as u64, out),
+        Some(counter) => put_decimal(u64::from(counter), out),
     }
 }
 
@@ -40,11 +40,11 @@ fn put_transfer(transfer: Transfer, out: &mut [u8]) -> usize
 {
     match transfer {
         Transfer::Closed => {
-            put_bytes(b"closed last -", out);
+            let _ = put_bytes(b"closed last -", out);
             13
         }
         Transfer::Open(last) => {
-            put_bytes(b"open last ", out);
+            let _ = put_bytes(b"open last ", out);
             10 + put_last(last, &mut out[10..])
         }
     }
@@ -55,24 +55,23 @@ fn put_state(state: State, out: &mut [u8]) -> usize
     requires { 87 ≤ length out.old }
     ensures { Put (state_text (state_of state)) result 87 out.old out.new }
 {
-    let transfer = state.transfer;
-    let a = put_transfer(transfer, out);
+    let a = put_transfer(state.transfer, out);
     let b = a + put_field(b" repeats ", state.repeats, &mut out[a..]);
     let c = b + put_field(b" total ", state.total, &mut out[b..]);
-    put_byte(b'\n', &mut out[c..]);
+    let _ = put_byte(b'\n', &mut out[c..]);
     c + 1
 }
 
 // The state; of a refusal its line first, and then the state before it.
-fn put_answer(answer: ReplayAnswer, out: &mut [u8]) -> usize
+fn put_answer(answer: Result<State, Stopped>, out: &mut [u8]) -> usize
     requires { 158 ≤ length out.old }
     ensures { Put (ended_text (ended_said answer)) result 158 out.old out.new }
 {
     match answer {
-        ReplayAnswer::Accepted(state) => put_state(state, out),
-        ReplayAnswer::Refused(e, state) => {
-            let a = put_refused(e, out);
-            a + put_state(state, &mut out[a..])
+        Ok(state) => put_state(state, out),
+        Err(Stopped { refusal, before }) => {
+            let a = put_refused(refusal, out);
+            a + put_state(before, &mut out[a..])
         }
     }
 }

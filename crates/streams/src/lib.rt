@@ -2,7 +2,7 @@
 // the file that a path of bytes names, and each file that the arguments name.
 #![tactic(auto)]
 
-ghost use Rattle.std.specs.Prelude.{◌≡◌, ◌<◌, ◌≤◌, take, length, IfOk, IsErr, IsNone, MatchOption, OnOk, IsUtf8};
+ghost use Rattle.std.specs.Prelude.{◌≡◌, ◌<◌, ◌≤◌, take, length, IfOk, IfSome, IsErr, IsNone, MatchOption, OnOk, IsUtf8};
 ghost use Rattle.std.specs.Io.{ReadsAtMost};
 ghost use Rattle.std.specs.Io.KnownBytes.{Consumes, IsAtEnd};
 ghost use Rattle.streams.specs.Told.{Tells};
@@ -46,6 +46,16 @@ pub fn argument(rt: &impl Env, i: usize, buf: &mut [u8]) -> usize
     ensures { result ≤ length buf.new }
 {
     rt.arg(i, buf).unwrap_or(0)
+}
+
+// The same of the one argument that the program was started with; none where there is no argument or more than one.
+pub fn lone_argument(rt: &impl Env, buf: &mut [u8]) -> Option<usize>
+    ensures { IfSome result (λ n. n ≤ length buf.new) }
+{
+    match argument_count(rt, 3) {
+        2 => Some(argument(rt, 1, buf)),
+        _ => None,
+    }
 }
 
 // Opens the file that a path of bytes names, for reading. A path that is no UTF-8 counts as one that can't be opened.
