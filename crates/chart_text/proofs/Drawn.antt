@@ -1,17 +1,21 @@
 -- What is still to come of a table, a row or the scale: one month, one part, one line, one entry less, and the end.
 -- Assumes nothing.
-use Prim.Native.Nat.{ℕ, zero, suc, ◌+◌, ◌-◌, ◌*◌, ◌≤◌, ◌<◌}
+use Prim.Native.Nat.{ℕ, zero, suc, min, ◌+◌, ◌-◌, ◌*◌, ◌≤◌, ◌<◌}
 use mathlib.Core.Path.{◌≡◌, refl}
 use mathlib.Core.Bool.{true, false}
-use mathlib.Core.List.{List, [], ◌++◌}
+use mathlib.Core.List.{List, [], ◌∷◌, ◌++◌}
+use mathlib.Core.Logic.{⊎_elim}
 use native.Mathlib.Omega.{arith}
 use native.Mathlib.Numerals.{add-one}
-use borrow.Author.Tests.{ne_eqb, lt-leb, le-leb}
-use lib.ListN.{length, drop, get_or, drop_of_length-le}
+use lib.Dec.{leb}
+use borrow.Author.Tests.{ne_eqb, lt-leb, le-leb, leb-true}
+use lib.ListN.{length, drop, get_or, get_or-eq_default, drop_of_length-le}
 use lib.Seq.{drop-cons}
+use Rattle.paper.specs.Choice.{pick}
+use Rattle.paper.proofs.Choice.{cut}
 use Rattle.paper.specs.Tally.{sum}
 use Rattle.paper.specs.WrongLoads.{all, refused_of}
-use Rattle.paper.specs.Chart.{of_year, fits, scale_line, scale_from, part, parts_from, month_drawn, months_from, occurs, entry, legend_from}
+use Rattle.paper.specs.Chart.{of_year, fits, top_of, divisions, words, scale_line, scale_from, scale, part, parts_from, month_drawn, months_from, occurs, entry, legend_from}
 
 -- ---- the months of a table, from the one at m on
 module _ (t : List (List ℕ)) (m : ℕ) (h : m < length t) where
@@ -67,39 +71,74 @@ pub parts_none : (m top a n below : ℕ) (row : List ℕ) (i : ℕ) → length r
 unfolding parts_from
 parts_none m top a n below row i h = rw (drop_of_length-le row h)
 
--- ---- the lines of the scale, of which n are left
-pub scale-more : (top parts k n : ℕ) → 0 < n → scale_from top parts k n ≡ scale_line top parts k ++ scale_from top parts (k + 1) (n - 1)
+-- ---- the lines of the scale, up to the last one
+pub scale-more : (top parts k : ℕ) → k < parts + 1 → scale_from top parts k (parts + 1 - k) ≡ scale_line top parts k ++ scale_from top parts (k + 1) (parts + 1 - (k + 1))
 unfolding scale_from
-scale-more top parts k zero h = absurd (omega arith)
-scale-more top parts k (suc n) h = let e : suc n - 1 ≡ n = omega arith in rw (e, add-one)
+scale-more top parts k h = let left : parts + 1 - k ≡ suc (parts + 1 - (k + 1)) = omega arith in rw (left, add-one k)
 
-pub scale-none : (top parts k n : ℕ) → n ≤ 0 → scale_from top parts k n ≡ []
+pub scale-none : (top parts k : ℕ) → parts + 1 ≤ k → scale_from top parts k (parts + 1 - k) ≡ []
 unfolding scale_from
-scale-none top parts k zero h = refl
-scale-none top parts k (suc n) h = absurd (omega arith)
+scale-none top parts k h = let left : parts + 1 - k ≡ 0 = omega arith in rw left
 
--- ---- the entries of the legend, of which n numbers are left
-pub legend_here : (t : List (List ℕ)) (place number n : ℕ) → 0 < n → occurs number t ≡ true → legend_from t place number n ≡ entry place number ++ legend_from t (place + 1) (number + 1) (n - 1)
+pub scale_all : (top : ℕ) → scale_from top (divisions top) 0 (divisions top + 1 - 0) ≡ scale top
+unfolding scale
+scale_all top = let all : divisions top + 1 - 0 ≡ suc (divisions top) = omega arith in rw all
+
+-- ---- the entries of the legend, up to that of 9
+pub legend_here : (t : List (List ℕ)) (place number : ℕ) → number < 10 → occurs number t ≡ true
+    → legend_from t place number (10 - number) ≡ entry place number ++ legend_from t (place + 1) (number + 1) (10 - (number + 1))
 unfolding legend_from
-legend_here t place number zero h e = absurd (omega arith)
-legend_here t place number (suc n) h e = let m : suc n - 1 ≡ n = omega arith in rw (e, m, add-one, add-one)
+legend_here t place number h e = let left : 10 - number ≡ suc (10 - (number + 1)) = omega arith in rw (left, e, add-one place, add-one number)
 
-pub legend_not : (t : List (List ℕ)) (place number n : ℕ) → 0 < n → occurs number t ≡ false → legend_from t place number n ≡ legend_from t place (number + 1) (n - 1)
+pub legend_not : (t : List (List ℕ)) (place number : ℕ) → number < 10 → occurs number t ≡ false
+    → legend_from t place number (10 - number) ≡ legend_from t place (number + 1) (10 - (number + 1))
 unfolding legend_from
-legend_not t place number zero h e = absurd (omega arith)
-legend_not t place number (suc n) h e = let m : suc n - 1 ≡ n = omega arith in rw (e, m, add-one)
+legend_not t place number h e = let left : 10 - number ≡ suc (10 - (number + 1)) = omega arith in rw (left, e, add-one number)
 
-pub legend_none : (t : List (List ℕ)) (place number n : ℕ) → n ≤ 0 → legend_from t place number n ≡ []
+pub legend_none : (t : List (List ℕ)) (place number : ℕ) → 10 ≤ number → legend_from t place number (10 - number) ≡ []
 unfolding legend_from
-legend_none t place number zero h = refl
-legend_none t place number (suc n) h = absurd (omega arith)
+legend_none t place number h = let left : 10 - number ≡ 0 = omega arith in rw left
 
--- a refusal number that is none of the others is 9
+-- ---- the top of the scale
+-- the first of these that fits the year, or 100
+abbrev pub first_fit : List ℕ → List (List ℕ) → ℕ
+first_fit [] t = 100
+first_fit (top ∷ tops) t = pick (fits top t) top (first_fit tops t)
+
+module _ (tops : List ℕ) (t : List (List ℕ)) (i : ℕ) where
+  pub fit-here : i < length tops → fits (get_or tops i 0) t ≡ true → first_fit (drop i tops) t ≡ get_or tops i 0
+  fit-here h e = rw (drop-cons tops i 0 h, e)
+
+  pub fit_not : i < length tops → fits (get_or tops i 0) t ≡ false → first_fit (drop i tops) t ≡ first_fit (drop (i + 1) tops) t
+  fit_not h e = rw (add-one, drop-cons tops i 0 h, e)
+
+  pub fit_none : length tops ≤ i → first_fit (drop i tops) t ≡ 100
+  fit_none h = rw (drop_of_length-le tops h)
+
+pub seven_tops : (t : List (List ℕ)) → first_fit (1 ∷ 2 ∷ 5 ∷ 10 ∷ 20 ∷ 50 ∷ []) t ≡ top_of t
+unfolding top_of
+seven_tops t = refl
+
+-- ---- the parts of the scale
+pub five_at_most : (n : ℕ) → min n 5 ≡ divisions n
+unfolding divisions
+five_at_most n = ⊎_elim (λ l. rw (le-leb n 5 (omega arith)) (omega arith)) (λ l. rw (lt-leb n 5 (omega arith)) (omega arith)) (cut n 6)
+
+-- ---- words
 above : (k n : ℕ) → k ≤ n → (n ≡ k → ⊥) → suc k ≤ n
 above k n h other = omega arith
 
-only_nine : (n : ℕ) → 9 ≤ n → n < 10 → n ≡ 9
-only_nine n h l = omega arith
+past : (xs : List (List ℕ)) (n : ℕ) → leb (length xs) 10 ≡ true → 10 ≤ n → get_or xs n [] ≡ []
+past xs n h l = get_or-eq_default xs [] (omega (arith, leb-true (length xs) 10 h))
 
-pub nine : (n : ℕ) → 0 < n → n < 10 → (n ≡ 1 → ⊥) → (n ≡ 2 → ⊥) → (n ≡ 3 → ⊥) → (n ≡ 4 → ⊥) → (n ≡ 5 → ⊥) → (n ≡ 6 → ⊥) → (n ≡ 7 → ⊥) → (n ≡ 8 → ⊥) → n ≡ 9
-nine n h l a b c d e f g i = only_nine n (above 8 n (above 7 n (above 6 n (above 5 n (above 4 n (above 3 n (above 2 n (above 1 n h a) b) c) d) e) f) g) i) l
+no_words : (n : ℕ) → 10 ≤ n → [] ≡ words n
+unfolding words
+no_words n h = let ten : true ≡ true = refl in rw past refl
+
+-- a number that is none of the nine has none
+pub other_words : (n : ℕ) → (n ≡ 1 → ⊥) → (n ≡ 2 → ⊥) → (n ≡ 3 → ⊥) → (n ≡ 4 → ⊥) → (n ≡ 5 → ⊥) → (n ≡ 6 → ⊥) → (n ≡ 7 → ⊥) → (n ≡ 8 → ⊥) → (n ≡ 9 → ⊥) → [] ≡ words n
+unfolding words
+other_words zero a b c d e f g h i = refl
+other_words (suc n) a b c d e f g h i =
+    let k = suc n in
+    no_words k (above 9 k (above 8 k (above 7 k (above 6 k (above 5 k (above 4 k (above 3 k (above 2 k (above 1 k (omega arith) a) b) c) d) e) f) g) h) i)

@@ -6,8 +6,7 @@ use mathlib.Core.List.{List}
 use borrow.Author.Tests.{lt-leb, le-leb}
 use lib.ListN.{length}
 use Rattle.paper.specs.Answer.{Refusal, accepted, refused}
-use Rattle.paper.specs.Tally.{tallied, table_of, verdict}
-use Rattle.loads_text.proofs.Lines.{table_is, refusal_is}
+use Rattle.paper.specs.Tally.{tallied}
 use Rattle.paper.specs.Chart.{chart, chart_for, too_long_drawn, chart_text}
 
 pub too_long_lem : (s : List ℕ) → 65536 < length s → too_long_drawn ≡ chart_text s
@@ -19,9 +18,9 @@ by_answer : (s : List ℕ) → length s ≤ 65536 → chart_for (tallied s) ≡ 
 unfolding chart_text
 by_answer s h = rw (le-leb _ _ h)
 
-pub counted : (s : List ℕ) {t : List (List ℕ)} → length s ≤ 65536 → accepted tt ≡ verdict (tallied s) → t ≡ table_of (tallied s) → chart t ≡ chart_text s
+pub counted : (s : List ℕ) {t : List (List ℕ)} → length s ≤ 65536 → accepted t ≡ tallied s → chart t ≡ chart_text s
 unfolding chart_for
-counted s h e is = ap chart is ∙ ap chart_for (table_is (tallied s) e) ∙ by_answer s h
+counted s h e = ap chart_for e ∙ by_answer s h
 
-pub not_counted : (s : List ℕ) {r : Refusal} → length s ≤ 65536 → refused r ≡ verdict (tallied s) → chart_for (refused r) ≡ chart_text s
-not_counted s {r} h e = ap chart_for (refusal_is (tallied s) r e) ∙ by_answer s h
+pub not_counted : (s : List ℕ) {r : Refusal} → length s ≤ 65536 → refused r ≡ tallied s → chart_for (refused r) ≡ chart_text s
+not_counted s h e = ap chart_for e ∙ by_answer s h

@@ -26,11 +26,9 @@ pub(crate) fn put_closing(out: &mut [u8], at: usize) -> usize
 fn of_year(table: [[u32; 10]; 12], first: usize) -> u64
     ensures { (result ≡ of_year first table) × (result ≤ 515396075400) }
 {
-    let mut total = 0u64;
-    let mut m = 0;
-    while m < 12 {
-        total += sum_from(table[m], first);
-        m += 1;
+    let mut total = 0;
+    for row in &table {
+        total += sum_from(*row, first);
     }
     total
 }

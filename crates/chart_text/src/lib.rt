@@ -16,20 +16,20 @@ ghost use Rattle.form.specs.Text.{Grew};
 use crate::bars::put_months;
 use crate::frame::{put_axes, put_closing, put_empty_note, put_heading, put_opening, put_patterns};
 use crate::legend::put_legend;
-use crate::scale::{put_scale, top_of};
+use crate::scale::Top;
 use form::{put, put_form};
-use tally::{Tallied, judge_records, tally};
+use tally::count_records;
 use wire::refusal::Refusal;
 
 // The picture of a table.
 fn put_chart(table: [[u32; 10]; 12], out: &mut [u8]) -> usize
     ensures { Grew (chart table) 29000 0 out.old result out.new }
 {
-    let top = top_of(table);
+    let top = Top::of(table);
     let a = put_opening(out, 0);
     let b = put_heading(table, out, a);
     let c = put_patterns(out, b);
-    let d = put_scale(top, out, c);
+    let d = top.put_scale(out, c);
     let e = put_months(table, top, out, d);
     let f = put_axes(out, e);
     let g = put_empty_note(table, out, f);
@@ -79,8 +79,8 @@ pub fn chart_text(input: &[u8], out: &mut [u8; 65536]) -> usize
     if 65536 < input.len() {
         return put_too_long(out);
     }
-    match judge_records(input) {
-        Tallied::Counted => put_chart(tally(input), out),
-        Tallied::Refused(e) => put_refusal(e, out),
+    match count_records(input) {
+        Ok(table) => put_chart(table, out),
+        Err(refusal) => put_refusal(refusal, out),
     }
 }

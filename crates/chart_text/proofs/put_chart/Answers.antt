@@ -8,7 +8,7 @@ use Rattle.chart_text.proofs.put_chart.Goals as goal
 pub returns : goal.returns
 unfolding chart
 returns c =
-    let top = c.top_of-top.ensures.0 in
+    let top = c.of-top.ensures in
     put_as
     (more c.put_opening-a.ensures (more c.put_heading-b.ensures (more c.put_patterns-c.ensures (more (rw top at c.put_scale-d.ensures)
     (more (rw top at c.put_months-e.ensures) (more c.put_axes-f.ensures (more c.put_empty_note-g.ensures (more c.put_legend-h.ensures c.put_closing.ensures))))))))

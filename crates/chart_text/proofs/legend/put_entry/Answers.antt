@@ -7,4 +7,4 @@ use Rattle.chart_text.proofs.legend.put_entry.Goals as goal
 
 pub returns : goal.returns
 unfolding entry
-returns c = put_as (more c.put_form-a.ensures (more c.put_words-b.ensures c.put.ensures)) refl (lit≤ tt)
+returns c = put_as (more c.put_form-a.ensures (more (put_as c.put-b.ensures c.words_of.ensures.value c.words_of.ensures.short) c.put.ensures)) refl (lit≤ tt)

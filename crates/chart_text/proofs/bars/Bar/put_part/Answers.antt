@@ -1,10 +1,10 @@
--- `chart_text::bars::put_part` meets its contract: no record has no part; else the form with its four numbers.
+-- `chart_text::bars::Bar::put_part` meets its contract: no record has no part; else the form with its four numbers.
 use mathlib.Core.Path.{refl}
 use borrow.Author.Tests.{eq-eqb, ne_eqb}
 use lib.Dec.{lit≤}
 use Rattle.paper.specs.Chart.{part}
 use Rattle.form.proofs.Grown.{none, put_as}
-use Rattle.chart_text.proofs.bars.put_part.Goals as goal
+use Rattle.chart_text.proofs.bars.Bar.put_part.Goals as goal
 
 pub returns-then-count-eq0 : goal.returns-then-count-eq0
 unfolding part
@@ -14,4 +14,4 @@ pub returns : goal.returns
 unfolding part
 returns c =
     rw (ne_eqb _ _ c.if-count-eq0.false)
-    (put_as (rw (c.less.ensures, c.less-2.ensures, c.height_of-low.ensures, c.height_of-high.ensures) at c.put_form.ensures) refl (lit≤ tt))
+    (put_as (rw (c.saturating_sub.ensures, c.saturating_sub-2.ensures, c.height-low.ensures, c.height-high.ensures) at c.put_form.ensures) refl (lit≤ tt))
