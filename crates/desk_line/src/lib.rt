@@ -6,15 +6,15 @@ ghost use Rattle.io.specs.Counts.{IsPrefixLen};
 ghost use Rattle.paper.specs.Answer.{over};
 ghost use Rattle.paper.specs.DeskProgram.{desk_line};
 
-use desk_check::{DeskAnswer, desk_check};
+use desk_check::desk_check;
 use request_line::line::Line;
 use request_line::text::put_text;
 use wire::write::put_bytes;
 
 // Room for an input: one byte more than it may have, so that a longer one is seen to be too long. All zeros.
 pub fn room() -> [u8; 131073]
-    ensures value { 131073 ≡ length result }
-    ensures value_2 { result ≡ replicate 131073 0 }
+    ensures len { 131073 ≡ length result }
+    ensures zeros { result ≡ replicate 131073 0 }
 {
     [0; 131073]
 }
@@ -30,10 +30,10 @@ pub fn desk_text(input: &[u8], out: &mut [u8; 4096]) -> usize
         return put_text(Line::TooLong, out);
     }
     match desk_check(input) {
-        DeskAnswer::Passed => {
-            put_bytes(b"passes\n", out);
+        Ok(()) => {
+            let _ = put_bytes(b"passes\n", out);
             7
         }
-        DeskAnswer::Refused(e) => put_text(Line::Refused(e), out),
+        Err(e) => put_text(Line::Refused(e), out),
     }
 }

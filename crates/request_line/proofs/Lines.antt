@@ -1,4 +1,4 @@
--- What the paper says of an input, by cases: too long, refused, and read.
+-- What the paper says of an input, by cases: too long, and read.
 -- Assumes nothing.
 use mathlib.Core.Path.{◌≡◌, refl, sym, ap, ◌∙◌}
 use Prim.Native.Nat.{ℕ, ◌-◌, ◌≤◌, ◌<◌}
@@ -6,6 +6,7 @@ use mathlib.Core.List.{List}
 use native.Mathlib.Omega.{arith}
 use borrow.Author.Tests.{lt-leb, le-leb}
 use lib.ListN.{length, length-drop}
+use Rattle.std.specs.Prelude.{Ok}
 use Rattle.paper.specs.Answer.{Refusal, Answer, accepted, refused}
 use Rattle.paper.specs.Bytes.{Bytes}
 use Rattle.paper.specs.Kind.{mode_of}
@@ -22,7 +23,6 @@ use Rattle.file_operation.proofs.Lengths.{accepted_then}
 use Rattle.request_file_transfer.specs.Reading.{meant, RequestRight}
 use Rattle.request_file_transfer.specs.Writing.{request_of}
 use Rattle.request_file_transfer.specs.declared.read.RequestFileTransferRequest.{RequestFileTransferRequest}
-use Rattle.request_file_transfer.specs.declared.read.RequestAnswer.{RequestAnswer}
 use Rattle.request_file_transfer.proofs.Laid as laid
 
 -- the input is too long
@@ -31,16 +31,12 @@ unfolding line_of
 too_long_lem s h = rw (lt-leb _ _ h)
 
 -- it is not: the reader's answer decides
-by_answer : (s : List ℕ) → length s ≤ 4096 → line_for (read_request s) ≡ line_of s
+pub by_answer : (s : List ℕ) → length s ≤ 4096 → line_for (read_request s) ≡ line_of s
 unfolding line_of
 by_answer s h = rw (le-leb _ _ h)
 
--- the reader refused
-pub unread : (s : List ℕ) {r : Refusal} → length s ≤ 4096 → refused r ≡ read_request s → bad r ≡ line_of s
-unread s h e = ap line_for e ∙ by_answer s h
-
 -- a request was read, and `name` is the part of the input at the name's place
-module _ (s : List ℕ) (q : RequestFileTransferRequest) (tail : ℕ) {name : List ℕ} (right : RequestRight s (RequestAnswer.Accepted q tail)) (part : name ≡ bytes_at s q.file_path_and_name) where
+module _ (s : List ℕ) (q : RequestFileTransferRequest) (tail : ℕ) {name : List ℕ} (right : RequestRight s (Ok (q, tail))) (part : name ≡ bytes_at s q.file_path_and_name) where
   -- what `needed` is to answer
   abbrev pub wanted : Answer ℕ
   wanted = length_in (write_request (request_of q.kind name 0 q.size))
@@ -61,6 +57,6 @@ module _ (s : List ℕ) (q : RequestFileTransferRequest) (tail : ℕ) {name : Li
   name-is = let h = right.place in sym (ap Place.len (place_back s q.file_path_and_name refl (omega (arith, h.begins, h.ends))))
 
   -- the line of the request
-  pub read_line : {kind normal : ℕ} {layout : AfterName} {format : Shown} → length s ≤ 4096 → accepted normal ≡ wanted → kind ≡ mode_of (kind_of q.kind)
-      → layout ≡ after_name (kind_of q.kind) → format ≡ format_shown layout q.data_format_identifier.0 → good kind q.file_path_and_name.len format normal (length s - tail) ≡ line_of s
-  read_line h said is table shown = rw (is, name-is, shown, table, normal_is said, ← length-drop tail s) (ap line_for right.paper ∙ by_answer s h)
+  pub read_line : {kind normal : ℕ} {layout : AfterName} {format : Shown} → accepted normal ≡ wanted → kind ≡ mode_of (kind_of q.kind)
+      → layout ≡ after_name (kind_of q.kind) → format ≡ format_shown layout q.data_format_identifier.0 → good kind q.file_path_and_name.len format normal (length s - tail) ≡ line_for (read_request s)
+  read_line said is table shown = rw (is, name-is, shown, table, normal_is said, ← length-drop tail s) (ap line_for right.paper)

@@ -6,13 +6,13 @@ use contract.Lifetimes.{Lfts}
 use denote.Triple.Clauses.{AtExit}
 use borrow.Fn.Kinds.{ended_of}
 use borrow.Fn.World.{ArgsD}
+use Rattle.std.specs.Prelude.{Option, Some, None}
 use Rattle.paper.specs.ReadingProgram as paper
 use Rattle.paper.specs.ReadingProgram.{dash, shown, too_long, good, bad}
 use Rattle.wire.proofs.Refusals.{refusal_back, refusal-back}
 use Rattle.wire.proofs.Unique.{Determined}
 use Rattle.wire.proofs.UniqueWriting.{WritesOnce}
 use Rattle.request_line.specs.Line.{shown_of, line_said}
-use Rattle.request_line.specs.declared.line.Shown.{Shown}
 use Rattle.request_line.specs.declared.line.Line.{Line}
 use Rattle.request_line.proofs.line.line_of.Kinds as line-of-kinds
 use Rattle.request_line.proofs.line.line_of.Reads as Line-of
@@ -23,14 +23,14 @@ use Rattle.request_line.proofs.text.line_text.Kinds as line-text-kinds
 use Rattle.request_line.proofs.text.line_text.Reads as line-text-reads
 
 -- what the paper's format stands for
-abbrev shown_back : paper.Shown → Shown
-shown_back dash = Shown.Dash
-shown_back (shown b) = Shown.Byte b
+abbrev shown_back : paper.Shown → Option ℕ
+shown_back dash = None
+shown_back (shown b) = Some b
 
 -- it comes back
-shown-back : (x : Shown) → shown_back (shown_of x) ≡ x
-shown-back Shown.Dash = refl
-shown-back (Shown.Byte b) = refl
+shown-back : (x : Option ℕ) → shown_back (shown_of x) ≡ x
+shown-back None = refl
+shown-back (Some b) = refl
 
 -- the line that the paper's stands for
 abbrev line_back : paper.Line → Line
@@ -41,7 +41,7 @@ line_back (bad e) = Line.Refused (refusal_back e)
 -- it comes back
 line-back : (r : Line) → line_back (line_said r) ≡ r
 line-back Line.TooLong = refl
-line-back (Line.Accepted kind name format normal left) = ap (λ (x : Shown). Line.Accepted kind name x normal left) (shown-back format)
+line-back (Line.Accepted kind name format normal left) = ap (λ (x : Option ℕ). Line.Accepted kind name x normal left) (shown-back format)
 line-back (Line.Refused e) = ap Line.Refused (refusal-back e)
 
 -- the input settles the line

@@ -8,30 +8,30 @@ ghost use Rattle.ascii_text.specs.Text.{Put};
 ghost use Rattle.request_line.specs.Line.{shown_of, line_said};
 ghost use Rattle.request_line.specs.Text.{front};
 
-use crate::line::{Line, Shown, line_of};
+use crate::line::{Line, line_of};
 use ascii_text::{put_decimal, put_field, put_refused};
 use wire::write::{put_byte, put_bytes};
 
-fn put_shown(format: Shown, out: &mut [u8]) -> usize
+fn put_shown(format: Option<u8>, out: &mut [u8]) -> usize
     ensures { Put (shown_text (shown_of format)) result 20 out.old out.new }
 {
     match format {
-        Shown::Dash => {
-            put_byte(b'-', out);
+        None => {
+            let _ = put_byte(b'-', out);
             1
         }
-        Shown::Byte(b) => put_decimal(b as u64, out),
+        Some(b) => put_decimal(u64::from(b), out),
     }
 }
 
 // `accepted kind K name N format F`.
-fn put_front(kind: u8, name: usize, format: Shown, out: &mut [u8]) -> usize
+fn put_front(kind: u8, name: usize, format: Option<u8>, out: &mut [u8]) -> usize
     requires { 160 ≤ length out.old }
     ensures { Put (front kind name (shown_of format)) result 88 out.old out.new }
 {
-    let a = put_field(b"accepted kind ", kind as u64, out);
+    let a = put_field(b"accepted kind ", u64::from(kind), out);
     let b = a + put_field(b" name ", name as u64, &mut out[a..]);
-    put_bytes(b" format ", &mut out[b..]);
+    let _ = put_bytes(b" format ", &mut out[b..]);
     let c = b + 8;
     c + put_shown(format, &mut out[c..])
 }
@@ -40,7 +40,7 @@ fn put_front(kind: u8, name: usize, format: Shown, out: &mut [u8]) -> usize
 fn put_accepted(
     kind: u8,
     name: usize,
-    format: Shown,
+    format: Option<u8>,
     normal: usize,
     left: usize,
     out: &mut [u8],
@@ -51,7 +51,7 @@ fn put_accepted(
     let d = put_front(kind, name, format, out);
     let e = d + put_field(b" normal ", normal as u64, &mut out[d..]);
     let f = e + put_field(b" left ", left as u64, &mut out[e..]);
-    put_byte(b'\n', &mut out[f..]);
+    let _ = put_byte(b'\n', &mut out[f..]);
     f + 1
 }
 
@@ -63,7 +63,7 @@ pub fn put_text(line: Line, out: &mut [u8; 4096]) -> usize
 {
     match line {
         Line::TooLong => {
-            put_bytes(b"too long\n", out);
+            let _ = put_bytes(b"too long\n", out);
             9
         }
         Line::Accepted {

@@ -9,10 +9,10 @@ use Rattle.desk_line.proofs.desk_text.Goals as goal
 pub returns-then-input-gt131072 : goal.returns-then-input-gt131072
 returns-then-input-gt131072 c = rw (← too_long_lem _ c.if-input-gt131072.true) c.put_text.ensures
 
-pub returns-in-Passed : goal.returns-in-Passed
-returns-in-Passed c =
-    rw (← judged _ c.if-input-gt131072.false (sym (ap desk_said c.in-Passed.is) ∙ c.desk_check.ensures)) (let o = put-over (put_leaf c.put_bytes.ensures) (search rules) in record { value = o.0; out_after = o.1.0; prefix_len = o.1.1 })
+pub returns-in-Ok : goal.returns-in-Ok
+returns-in-Ok c =
+    rw (← judged _ c.if-input-gt131072.false (sym (ap desk_said c.in-Ok.is) ∙ c.desk_check.ensures)) (let o = put-over (put_leaf c.put_bytes.ensures) (search rules) in record { value = o.0; out_after = o.1.0; prefix_len = o.1.1 })
 
-pub returns-in-Refused : goal.returns-in-Refused
-returns-in-Refused c =
-    rw (← judged _ c.if-input-gt131072.false (sym (ap desk_said c.in-Refused.is) ∙ c.desk_check.ensures)) c.put_text-in-Refused.ensures
+pub returns-in-Err : goal.returns-in-Err
+returns-in-Err c =
+    rw (← judged _ c.if-input-gt131072.false (sym (ap desk_said c.in-Err.is) ∙ c.desk_check.ensures)) c.put_text-in-Err.ensures

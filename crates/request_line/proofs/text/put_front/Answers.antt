@@ -6,5 +6,5 @@ use Rattle.request_line.proofs.text.put_front.Goals as goal
 
 pub returns : goal.returns
 returns c =
-    put_as (put-more (put-more (put-more (put-laid c.put_field-a.ensures.laid c.put_field-a.ensures.upper_bound) (put-laid c.put_field.ensures.laid c.put_field.ensures.upper_bound)) (put_leaf c.put_bytes.ensures)) c.put_shown.ensures)
+    put_as (put-more (put-more (put-more (put-laid (rw c.from.ensures at c.put_field-a.ensures.laid) c.put_field-a.ensures.upper_bound) (put-laid c.put_field.ensures.laid c.put_field.ensures.upper_bound)) (put_leaf c.put_bytes.ensures)) c.put_shown.ensures)
     refl (lit≤ tt)
