@@ -1,6 +1,7 @@
 -- What an answer with both the table and the verdict says, in the paper's terms.
-use Rattle.std.specs.Prelude.{◌≡◌, ℕ, List, [], ◌∷◌, ◌++◌}
+use Rattle.std.specs.Prelude.{◌≡◌, ℕ, Bool, true, false, eqb, List, [], ◌∷◌, ◌++◌}
 use Rattle.paper.specs.Answer.{Answer}
+use Rattle.paper.specs.Choice.{pick}
 use Rattle.paper.specs.Tally as paper
 use Rattle.tally.specs.Judged.{judged}
 use Rattle.tally.specs.declared.sheet.Sheet.{Sheet}
@@ -9,6 +10,11 @@ use Rattle.tally.specs.declared.sheet.Sheet.{Sheet}
 unfoldable pub cells_of : List (List ℕ) → List ℕ
 cells_of [] = []
 cells_of (r ∷ rows) = r ++ cells_of rows
+
+-- some of these is not 0
+unfoldable pub any_count : List ℕ → Bool
+any_count [] = false
+any_count (x ∷ xs) = pick (eqb x 0) (any_count xs) true
 
 -- the verdict and the cells are the paper's
 pub record SheetRight (a : Answer (List (List ℕ))) (r : Sheet) : Type 0 where
