@@ -8,15 +8,16 @@ use native.Mathlib.Omega.{arith}
 use borrow.Author.Tests.{eqb-true, eq-eqb}
 use lib.Dec.{eqb}
 use lib.ListN.{length, get_or, take, drop, length-drop}
+use Rattle.std.specs.Prelude.{Result, Ok, Err}
 use lib.Seq.{drop-drop, take_all, length-take-le}
 use Rattle.paper.specs.Choice.{pick}
-use Rattle.paper.specs.Answer.{Refusal, left_over, accepted, refused, ◌leaving◌, ◌>>=◌, give, refuse, hand_out}
+use Rattle.paper.specs.Answer.{left_over, accepted, refused, ◌leaving◌, ◌>>=◌, give, refuse, hand_out}
 use Rattle.paper.specs.Bytes.{Bytes}
 use Rattle.paper.specs.Field.{part, byte}
 use Rattle.paper.specs.Request.{read_request}
 use Rattle.paper.specs.Response.{Response, AfterMode, ended, block_and_format, after_mode, read_response, as_read, kept_after_mode}
 use Rattle.paper.specs.RoutineControl.{read_routine_request, read_routine_response}
-use Rattle.paper.specs.WholeMessage.{Sort, file_request, routine_request, file_response, routine_response, negative_answer, known_sort, Service, known_service, list_of, stands, negative, no_more, read_negative}
+use Rattle.paper.specs.WholeMessage.{Sort, file_request, routine_request, file_response, routine_response, negative_answer, known_sort, known_service, list_of, stands, no_more, read_negative}
 use Rattle.paper.specs.WholeMessage.{read_after_service, read_message}
 use Rattle.paper.proofs.Places.{on, off, part-short, part_there}
 use Rattle.paper.proofs.Response.{response_layout}
@@ -27,21 +28,17 @@ use Rattle.wire.specs.declared.refusal.Refusal as wire
 use Rattle.file_operation.specs.Mode.{kind_of}
 use Rattle.request_file_transfer.specs.Reading as request
 use Rattle.request_file_transfer.specs.declared.read.RequestFileTransferRequest.{RequestFileTransferRequest}
-use Rattle.request_file_transfer.specs.declared.read.RequestAnswer.{RequestAnswer}
 use Rattle.request_file_transfer_response.specs.Reading as response
 use Rattle.request_file_transfer_response.specs.Reading.{block_start}
 use Rattle.request_file_transfer_response.specs.declared.read.RequestFileTransferResponse.{RequestFileTransferResponse}
-use Rattle.request_file_transfer_response.specs.declared.read.ResponseAnswer.{ResponseAnswer}
 use Rattle.routine_control.specs.Request.{RoutineRequestRight}
 use Rattle.routine_control.specs.Response.{RoutineResponseRight}
 use Rattle.routine_control.specs.declared.request.RoutineControlRequest.{RoutineControlRequest}
-use Rattle.routine_control.specs.declared.request.RoutineControlRequestAnswer.{RoutineControlRequestAnswer}
 use Rattle.routine_control.specs.declared.response.RoutineControlResponse.{RoutineControlResponse}
-use Rattle.routine_control.specs.declared.response.RoutineControlResponseAnswer.{RoutineControlResponseAnswer}
-use Rattle.message.specs.Reading.{place_on, block_on, request_on, routine_request_on, response_on, routine_response_on, SortRight, MessageRight}
+use Rattle.message.specs.Reading.{place_on, block_on, SortRight, MessageRight}
 use Rattle.message.specs.Service.{service_of}
 use Rattle.message.specs.declared.service.Service as code
-use Rattle.message.specs.declared.read.MessageAnswer.{MessageAnswer}
+use Rattle.message.specs.declared.read.Message.{Message}
 
 -- ---- places
 -- the part that `&s[1..]` lends
@@ -65,27 +62,50 @@ block-bytes s p none = go (eqb p.start 0) refl
     go true e = rw (none (eqb-true p.start 0 e))
     go false e = bytes_on s p
 
--- ---- the four sorts of document 01
+-- ---- the four sorts of document 01: the record of the whole is that of the rest, but for its place
+abbrev request_on : RequestFileTransferRequest → RequestFileTransferRequest
+request_on q = record { file_path_and_name = place_on q.file_path_and_name; size = q.size; kind = q.kind; data_format_identifier = q.data_format_identifier }
+
+abbrev response_on : RequestFileTransferResponse → RequestFileTransferResponse
+response_on q = record {
+  max_number_of_block_length = block_on q.max_number_of_block_length;
+  file_size = q.file_size;
+  position = q.position;
+  kind = q.kind;
+  data_format_identifier = q.data_format_identifier;
+}
+
+abbrev routine_request_on : RoutineControlRequest → RoutineControlRequest
+routine_request_on q = record {
+  suppress_positive_response = q.suppress_positive_response;
+  sub_function = q.sub_function;
+  routine_id = q.routine_id;
+  option_record = place_on q.option_record;
+}
+
+abbrev routine_response_on : RoutineControlResponse → RoutineControlResponse
+routine_response_on q = record { sub_function = q.sub_function; routine_id = q.routine_id; status_record = place_on q.status_record }
+
 -- a refusal of the rest is that of the whole
 module _ {s : List ℕ} {e : wire.Refusal} where
-  pub request_off : request.RequestRight (lent s) (RequestAnswer.Refused e) → SortRight file_request s (MessageAnswer.Refused e)
+  pub request_off : request.RequestRight (lent s) (Err e) → SortRight file_request s (Err e)
   request_off h = record { paper = off read_request _ (drop 1 s) (rw lent_is at h.paper); place = tt }
 
-  pub response_off : response.ResponseRight (lent s) (ResponseAnswer.Refused e) → SortRight file_response s (MessageAnswer.Refused e)
+  pub response_off : response.ResponseRight (lent s) (Err e) → SortRight file_response s (Err e)
   response_off h = record { paper = off read_response _ (drop 1 s) (rw lent_is at h.paper); place = tt }
 
-  pub routine_request_off : RoutineRequestRight (lent s) (RoutineControlRequestAnswer.Refused e) → SortRight routine_request s (MessageAnswer.Refused e)
+  pub routine_request_off : RoutineRequestRight (lent s) (Err e) → SortRight routine_request s (Err e)
   routine_request_off h = record { paper = off read_routine_request _ (drop 1 s) (rw lent_is at h.paper); place = tt }
 
-  pub routine_response_off : RoutineResponseRight (lent s) (RoutineControlResponseAnswer.Refused e) → SortRight routine_response s (MessageAnswer.Refused e)
+  pub routine_response_off : RoutineResponseRight (lent s) (Err e) → SortRight routine_response s (Err e)
   routine_response_off h = record { paper = off read_routine_response _ (drop 1 s) (rw lent_is at h.paper); place = tt }
 
 module _ (s : List ℕ) (long : 1 ≤ length s) where
-  pub request-on : {q : RequestFileTransferRequest} {tail : ℕ} → request.RequestRight (lent s) (RequestAnswer.Accepted q tail)
-      → SortRight file_request s (MessageAnswer.FileRequest (request_on q) (tail + 1))
+  pub request-on : {q : RequestFileTransferRequest} {tail : ℕ} → request.RequestRight (lent s) (Ok (q, tail))
+      → SortRight file_request s (Ok (Message.FileRequest (request_on q) (tail + 1)))
   unfolding give
   request-on {q} {tail} lends =
-      let h : request.RequestRight (drop 1 s) (RequestAnswer.Accepted q tail) = rw lent_is at lends in
+      let h : request.RequestRight (drop 1 s) (Ok (q, tail)) = rw lent_is at lends in
       let p = h.place in
       record {
         paper = rw (bytes_on s q.file_path_and_name, drop_on tail s) (on read_request _ (drop 1 s) h.paper refl);
@@ -97,19 +117,19 @@ module _ (s : List ℕ) (long : 1 ≤ length s) where
         };
       }
 
-  pub routine-request-on : {q : RoutineControlRequest} → RoutineRequestRight (lent s) (RoutineControlRequestAnswer.Accepted q) → SortRight routine_request s (MessageAnswer.RoutineRequest (routine_request_on q))
+  pub routine-request-on : {q : RoutineControlRequest} → RoutineRequestRight (lent s) (Ok q) → SortRight routine_request s (Ok (Message.RoutineRequest (routine_request_on q)))
   unfolding give
   routine-request-on {q} lends =
-      let h : RoutineRequestRight (drop 1 s) (RoutineControlRequestAnswer.Accepted q) = rw lent_is at lends in
+      let h : RoutineRequestRight (drop 1 s) (Ok q) = rw lent_is at lends in
       record {
         paper = rw (bytes_on s q.option_record) (on read_routine_request _ (drop 1 s) h.paper refl);
         place = (ap (λ (n : ℕ). n + 1) h.place.0, omega (arith, h.place.1, length-drop 1 s));
       }
 
-  pub routine-response-on : {q : RoutineControlResponse} → RoutineResponseRight (lent s) (RoutineControlResponseAnswer.Accepted q) → SortRight routine_response s (MessageAnswer.RoutineResponse (routine_response_on q))
+  pub routine-response-on : {q : RoutineControlResponse} → RoutineResponseRight (lent s) (Ok q) → SortRight routine_response s (Ok (Message.RoutineResponse (routine_response_on q)))
   unfolding give
   routine-response-on {q} lends =
-      let h : RoutineResponseRight (drop 1 s) (RoutineControlResponseAnswer.Accepted q) = rw lent_is at lends in
+      let h : RoutineResponseRight (drop 1 s) (Ok q) = rw lent_is at lends in
       record {
         paper = rw (bytes_on s q.status_record) (on read_routine_response _ (drop 1 s) h.paper refl);
         place = (ap (λ (n : ℕ). n + 1) h.place.0, omega (arith, h.place.1, length-drop 1 s));
@@ -132,11 +152,11 @@ bytes_behind [] h = tt
 bytes_behind (b ∷ s) h = h.1
 
 module _ (s : List ℕ) (long : 1 ≤ length s) (bytes : Bytes s) where
-  pub response-on : {q : RequestFileTransferResponse} {tail : ℕ} → response.ResponseRight (lent s) (ResponseAnswer.Accepted q tail)
-      → SortRight file_response s (MessageAnswer.FileResponse (response_on q) (tail + 1))
+  pub response-on : {q : RequestFileTransferResponse} {tail : ℕ} → response.ResponseRight (lent s) (Ok (q, tail))
+      → SortRight file_response s (Ok (Message.FileResponse (response_on q) (tail + 1)))
   unfolding give
   response-on {q} {tail} lends =
-      let h : response.ResponseRight (drop 1 s) (ResponseAnswer.Accepted q tail) = rw lent_is at lends in
+      let h : response.ResponseRight (drop 1 s) (Ok (q, tail)) = rw lent_is at lends in
       let (begins, ends, none) = go h (after_mode (kind_of q.kind)) refl in
       record {
         paper = rw (block-bytes s q.max_number_of_block_length none, drop_on tail s) (on read_response _ (drop 1 s) h.paper refl);
@@ -146,7 +166,7 @@ module _ (s : List ℕ) (long : 1 ≤ length s) (bytes : Bytes s) where
       place : Place
       place = q.max_number_of_block_length
 
-      go : response.ResponseRight (drop 1 s) (ResponseAnswer.Accepted q tail) → (k : AfterMode) → after_mode (kind_of q.kind) ≡ k
+      go : response.ResponseRight (drop 1 s) (Ok (q, tail)) → (k : AfterMode) → after_mode (kind_of q.kind) ≡ k
           → ((block_on place).start ≡ block_start k 2) × ((block_on place).start + (block_on place).len ≤ length s) × (place.start ≡ 0 → place.len ≡ 0)
       go h ended e =
           let start : place.start ≡ 0 = h.place.begins ∙ ap (λ (k : AfterMode). block_start k 1) e in
@@ -173,14 +193,14 @@ module _ (s : List ℕ) (long : 1 ≤ length s) where
   as_long : length whole ≡ length s
   as_long = omega (arith, length-drop 1 s)
 
-  pub negative-short : length s < 3 → SortRight negative_answer s (MessageAnswer.Refused (wire.Refusal.TooShort 3 (length s)))
+  pub negative-short : length s < 3 → SortRight negative_answer s (Err (wire.Refusal.TooShort 3 (length s)))
   unfolding read_negative
   negative-short few = record {
     paper = off read_negative _ whole (off (part 3) _ whole (part-short whole 0 3 (length s) (omega (arith, as_long)) few));
     place = tt;
   }
 
-  pub negative-long : 3 < length s → SortRight negative_answer s (MessageAnswer.Refused (wire.Refusal.LeftOver (length s - 3)))
+  pub negative-long : 3 < length s → SortRight negative_answer s (Err (wire.Refusal.LeftOver (length s - 3)))
   unfolding read_negative
   negative-long many = record {
     paper = off read_negative _ whole
@@ -189,7 +209,7 @@ module _ (s : List ℕ) (long : 1 ≤ length s) where
   }
 
 -- of three bytes the second is judged
-pub negative_off : (s : List ℕ) {e : wire.Refusal} → length s ≡ 3 → refused (row e) ≡ known_service (get_or s 1 0) → SortRight negative_answer s (MessageAnswer.Refused e)
+pub negative_off : (s : List ℕ) {e : wire.Refusal} → length s ≡ 3 → refused (row e) ≡ known_service (get_or s 1 0) → SortRight negative_answer s (Err e)
 unfolding read_negative ◌>>=◌ part no_more refuse
 negative_off [] l k = absurd (omega arith)
 negative_off (a ∷ []) l k = absurd (omega arith)
@@ -199,7 +219,7 @@ negative_off (a ∷ b ∷ c ∷ d ∷ t) l k = absurd (omega arith)
 
 -- and then the third, the code, is marked by the list of its service
 pub negative_on : (s : List ℕ) (k : code.Service) {listed : Bool} → length s ≡ 3 → accepted (service_of k) ≡ known_service (get_or s 1 0) → listed ≡ stands (get_or s 2 0) (list_of (service_of k))
-    → SortRight negative_answer s (MessageAnswer.Negative (record { service = k; code = get_or s 2 0; listed = listed }))
+    → SortRight negative_answer s (Ok (Message.Negative (record { service = k; code = get_or s 2 0; listed = listed })))
 unfolding read_negative ◌>>=◌ part no_more give
 negative_on [] k l known is = absurd (omega arith)
 negative_on (a ∷ []) k l known is = absurd (omega arith)
@@ -209,17 +229,17 @@ negative_on (a ∷ b ∷ c ∷ d ∷ t) k l known is = absurd (omega arith)
 
 -- ---- the service byte
 -- it is missing
-pub no_service : {s : List ℕ} {e : wire.Refusal} → refused (row e) ≡ byte s → MessageRight s (MessageAnswer.Refused e)
+pub no_service : {s : List ℕ} {e : wire.Refusal} → refused (row e) ≡ byte s → MessageRight s (Err e)
 unfolding read_message
 no_service {s} h = record { paper = off byte _ s h; place = tt }
 
 module _ {s t : List ℕ} {b : ℕ} (first : accepted (b leaving t) ≡ byte s) where
   -- it is none of the five
-  pub no_sort : {e : wire.Refusal} → refused (row e) ≡ known_sort b → MessageRight s (MessageAnswer.Refused e)
+  pub no_sort : {e : wire.Refusal} → refused (row e) ≡ known_sort b → MessageRight s (Err e)
   unfolding read_message refuse
   no_sort e = record { paper = on byte _ s first (off (hand_out (known_sort b)) _ t (rw (← e))); place = tt }
 
   -- the sort has the rest
-  pub of_sort : {k : Sort} {r : MessageAnswer} → accepted k ≡ known_sort b → drop 1 s ≡ t → SortRight k s r → MessageRight s r
+  pub of_sort : {k : Sort} {r : Result Message wire.Refusal} → accepted k ≡ known_sort b → drop 1 s ≡ t → SortRight k s r → MessageRight s r
   unfolding read_message give
   of_sort {k} e rest h = record { paper = h.paper ∙ on byte _ s first (on (hand_out (known_sort b)) _ t {a = k} {t = t} (rw (← e)) (ap (read_after_service k) rest)); place = h.place }

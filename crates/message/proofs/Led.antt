@@ -1,7 +1,7 @@
 -- One law for every writer: what document 01's writer promises of the room behind the service byte, and the service byte put before it, is the promise of the whole.
 -- Assumes nothing.
 use mathlib.Core.Path.{◌≡◌, refl, sym, ap, ◌∙◌}
-use Prim.Native.Nat.{ℕ, suc, ◌+◌, ◌-◌, ◌≤◌}
+use Prim.Native.Nat.{ℕ, suc, ◌-◌, ◌≤◌}
 use mathlib.Core.Bool.{Bool, true, false}
 use mathlib.Core.List.{List, [], ◌∷◌, ◌++◌, append-nil}
 use native.Mathlib.Omega.{arith}
@@ -22,15 +22,10 @@ use Rattle.paper.proofs.Choice.{check_passed, then_passed}
 use Rattle.paper.proofs.Request as request
 use Rattle.paper.proofs.Response as response
 use Rattle.wire.specs.Writing.{told, Wrote}
-use Rattle.wire.specs.declared.write.WriteAnswer.{WriteAnswer}
-use Rattle.wire.proofs.Over.{over_length, rest, back, filled_more}
-use Rattle.wire.proofs.Writes.{writes, filled}
-use Rattle.message.specs.Writing.{rest_start, answer_on, spoken_of, contents_on, ServicePut}
-
--- what can be led by a service byte: bytes, at least one and at most 65,572, or refusal 2
-abbrev pub Leads : Answer (List ℕ) → Type 0
-Leads (accepted u) = (1 ≤ length u) × (length u ≤ 65572)
-Leads (refused r) = r.number ≡ 2
+use Rattle.wire.specs.declared.refusal.Refusal as wire
+use Rattle.std.specs.Prelude.{Result, min}
+use Rattle.wire.proofs.Over.{over_length, rest, back}
+use Rattle.message.specs.Writing.{answer_on, spoken_of, contents_on, ServicePut, Leads}
 
 -- ---- the law
 -- the answer about the rest speaks of no more bytes than that
@@ -42,7 +37,7 @@ spoken (accepted u) old h = go (leb (length u) (length old))
     go true = h.1
     go false = h.1
 
-pub spoken-of : {message : Answer (List ℕ)} {old new : List ℕ} {w : WriteAnswer} → Leads message → Wrote message old w new → spoken_of (told w) ≤ 65572
+pub spoken-of : {message : Answer (List ℕ)} {old new : List ℕ} {w : Result ℕ wire.Refusal} → Leads message → Wrote message old w new → spoken_of (told w) ≤ 65572
 spoken-of {message} {old} h w = rw w.answer (spoken message old h)
 
 -- what the paper says of bytes for which there is room, or too little
@@ -101,7 +96,7 @@ back_all at old mid =
     ap (λ (l : List ℕ). take at old ++ l) (ap (λ (l : List ℕ). mid ++ l) none ∙ append-nil mid)
 
 -- the part behind the service byte was written, and then the service byte was put: the whole message is
-module _ (k : Sort) (message : Answer (List ℕ)) {w r : WriteAnswer} (h : Leads message) where
+module _ (k : Sort) (message : Answer (List ℕ)) {w r : Result ℕ wire.Refusal} (h : Leads message) where
   -- in a room with a first byte
   in-room : (x : ℕ) (old : List ℕ) {mid new : List ℕ} → Wrote message old w mid → ServicePut (service_byte k) w (x ∷ mid) r new → Wrote (led k message) (x ∷ old) r new
   in-room x old wrote put =
@@ -120,10 +115,10 @@ module _ (k : Sort) (message : Answer (List ℕ)) {w r : WriteAnswer} (h : Leads
         contents = put.contents ∙ rw (wrote.answer, wrote.contents) contents;
       }
 
-  pub leads : (old : List ℕ) {at : ℕ} {mid new : List ℕ} → at ≡ rest_start (length old) → Wrote message (rest at old) w mid → ServicePut (service_byte k) w (back at old mid) r new → Wrote (led k message) old r new
+  pub leads : (old : List ℕ) {at : ℕ} {mid new : List ℕ} → at ≡ min (length old) 1 → Wrote message (rest at old) w mid → ServicePut (service_byte k) w (back at old mid) r new → Wrote (led k message) old r new
   leads [] e wrote put = in_none (rw (rest_all, e) at wrote) (rw (back_all, e) at put)
-  leads (x ∷ old) e wrote put =
-      let first = e ∙ ap (λ (b : Bool). pick b 1 0) (le-leb 1 (suc (length old)) (omega arith)) in
+  leads (x ∷ old) {at} e wrote put =
+      let first : at ≡ 1 = omega (arith, e) in
       in-room x old (rw (rest_all, first) at wrote) (rw (back_all, first) at put)
 
 -- ---- the messages of document 01 can be led by a service byte
@@ -196,9 +191,3 @@ negative-refused b c e = rw (← e)
 pub negative-bytes : (b c : ℕ) {k : Service} → accepted k ≡ known_service b → write_negative b c ≡ accepted (0x7F ∷ b ∷ c ∷ [])
 unfolding write_negative
 negative-bytes b c e = rw (← e)
-
--- each in the room that begins where the previous one ended
-pub negative-laid : (b c : ℕ) {old x y z : List ℕ} {p q o : WriteAnswer} → 3 ≤ length old
-    → Wrote (accepted (0x7F ∷ [])) old p x → Wrote (accepted (b ∷ [])) (rest 1 x) q y → Wrote (accepted (c ∷ [])) (rest 2 (back 1 x y)) o z
-    → Wrote (accepted (0x7F ∷ b ∷ c ∷ [])) old (WriteAnswer.Accepted 3) (back 2 (back 1 x y) z)
-negative-laid b c h first second third = writes 3 refl h (filled_more 2 (filled_more 1 (filled refl first) (filled refl second) refl) (filled refl third) refl)

@@ -6,6 +6,7 @@ use mathlib.Core.Bool.{Bool}
 use mathlib.Core.List.{List}
 use native.Mathlib.Omega.{arith}
 use lib.ListN.{length}
+use Rattle.std.specs.Prelude.{Result, Ok, Err}
 use Rattle.paper.specs.Answer.{Answer, accepted, refused, Read, ◌leaving◌}
 use Rattle.paper.specs.Request.{Request}
 use Rattle.paper.specs.Response.{Response, after_mode}
@@ -13,6 +14,7 @@ use Rattle.paper.specs.WholeMessage as paper
 use Rattle.paper.specs.WholeMessage.{file_request, routine_request, file_response, routine_response, negative_answer, file_transfer, routine_control}
 use Rattle.paper.specs.WholeMessage.{WholeMessage, a_file_request, a_routine_request, a_file_response, a_routine_response, a_negative_answer, read_message}
 use Rattle.wire.specs.declared.place.Place.{Place}
+use Rattle.wire.specs.declared.refusal.Refusal.{Refusal}
 use Rattle.wire.proofs.Refusals.{refusal_back, refusal-back}
 use Rattle.wire.proofs.Unique.{Determined, tail_back, place_of, place_back}
 use Rattle.wire.proofs.UniqueWriting.{WritesOnce, wrote_once}
@@ -27,18 +29,16 @@ use Rattle.routine_control.proofs.Unique.{sub_back, sub_back_lem}
 use Rattle.message.specs.Service.{sort_said, service_of, service_said}
 use Rattle.message.specs.Reading.{message_said, message_placed, RequestPlaced, ResponsePlaced, MessageRight}
 use Rattle.message.specs.declared.service.Sort.{Sort}
-use Rattle.message.specs.declared.service.SortAnswer.{SortAnswer}
 use Rattle.message.specs.declared.service.Service.{Service}
-use Rattle.message.specs.declared.service.ServiceAnswer.{ServiceAnswer}
-use Rattle.message.specs.declared.read.MessageAnswer.{MessageAnswer}
-use Rattle.message.proofs.service.SortAnswer.refusal.Kinds as sort-refusal-kinds
-use Rattle.message.proofs.service.SortAnswer.refusal.Reads as sort-refusal
+use Rattle.message.specs.declared.read.Message.{Message}
+use Rattle.message.proofs.service.SortTryFromU8 as sort_of_byte
+use Rattle.message.proofs.service.U8FromSort as byte_of_sort
+use Rattle.message.proofs.service.ServiceTryFromU8 as service_of_byte
+use Rattle.message.proofs.service.U8FromService as byte_of_service
 use Rattle.message.proofs.service.Sort.from_byte.Kinds as sort-from-byte-kinds
 use Rattle.message.proofs.service.Sort.from_byte.Reads as sort-from-byte
 use Rattle.message.proofs.service.Sort.value.Kinds as sort-value-kinds
 use Rattle.message.proofs.service.Sort.value.Reads as sort-value
-use Rattle.message.proofs.service.ServiceAnswer.refusal.Kinds as service-refusal-kinds
-use Rattle.message.proofs.service.ServiceAnswer.refusal.Reads as service-refusal
 use Rattle.message.proofs.service.Service.from_byte.Kinds as service-from-byte-kinds
 use Rattle.message.proofs.service.Service.from_byte.Reads as service-from-byte
 use Rattle.message.proofs.service.Service.value.Kinds as service-value-kinds
@@ -60,21 +60,21 @@ use Rattle.message.proofs.write.write_routine_response_message.Reads as write-ro
 
 -- ---- service bytes
 -- the code's sort for the paper's
-abbrev sort_back : Answer paper.Sort → SortAnswer
-sort_back (accepted file_request) = SortAnswer.Accepted Sort.FileRequest
-sort_back (accepted routine_request) = SortAnswer.Accepted Sort.RoutineRequest
-sort_back (accepted file_response) = SortAnswer.Accepted Sort.FileResponse
-sort_back (accepted routine_response) = SortAnswer.Accepted Sort.RoutineResponse
-sort_back (accepted negative_answer) = SortAnswer.Accepted Sort.NegativeAnswer
-sort_back (refused e) = SortAnswer.Refused (refusal_back e)
+abbrev sort_back : Answer paper.Sort → Result Sort Refusal
+sort_back (accepted file_request) = Ok Sort.FileRequest
+sort_back (accepted routine_request) = Ok Sort.RoutineRequest
+sort_back (accepted file_response) = Ok Sort.FileResponse
+sort_back (accepted routine_response) = Ok Sort.RoutineResponse
+sort_back (accepted negative_answer) = Ok Sort.NegativeAnswer
+sort_back (refused e) = Err (refusal_back e)
 
-sort-back : (r : SortAnswer) → sort_back (sort_said r) ≡ r
-sort-back (SortAnswer.Accepted Sort.FileRequest) = refl
-sort-back (SortAnswer.Accepted Sort.RoutineRequest) = refl
-sort-back (SortAnswer.Accepted Sort.FileResponse) = refl
-sort-back (SortAnswer.Accepted Sort.RoutineResponse) = refl
-sort-back (SortAnswer.Accepted Sort.NegativeAnswer) = refl
-sort-back (SortAnswer.Refused e) = ap SortAnswer.Refused (refusal-back e)
+sort-back : (r : Result Sort Refusal) → sort_back (sort_said r) ≡ r
+sort-back (Ok Sort.FileRequest) = refl
+sort-back (Ok Sort.RoutineRequest) = refl
+sort-back (Ok Sort.FileResponse) = refl
+sort-back (Ok Sort.RoutineResponse) = refl
+sort-back (Ok Sort.NegativeAnswer) = refl
+sort-back (Err e) = ap Err (refusal-back e)
 
 -- the code's service for the paper's
 abbrev pub service_back : paper.Service → Service
@@ -85,31 +85,37 @@ pub service-back : (k : Service) → service_back (service_of k) ≡ k
 service-back Service.FileTransfer = refl
 service-back Service.RoutineControl = refl
 
-abbrev service_answer_back : Answer paper.Service → ServiceAnswer
-service_answer_back (accepted k) = ServiceAnswer.Accepted (service_back k)
-service_answer_back (refused e) = ServiceAnswer.Refused (refusal_back e)
+abbrev service_answer_back : Answer paper.Service → Result Service Refusal
+service_answer_back (accepted k) = Ok (service_back k)
+service_answer_back (refused e) = Err (refusal_back e)
 
-service-answer-back : (r : ServiceAnswer) → service_answer_back (service_said r) ≡ r
-service-answer-back (ServiceAnswer.Accepted k) = ap ServiceAnswer.Accepted (service-back k)
-service-answer-back (ServiceAnswer.Refused e) = ap ServiceAnswer.Refused (refusal-back e)
+service-answer-back : (r : Result Service Refusal) → service_answer_back (service_said r) ≡ r
+service-answer-back (Ok k) = ap Ok (service-back k)
+service-answer-back (Err e) = ap Err (refusal-back e)
 
 pub sort_from_byte_determined : Determined 0 sort-from-byte-kinds.ps sort-from-byte-kinds.r sort-from-byte.Post
 sort_from_byte_determined κs a x y r₁ r₂ p q = sym (sort-back r₁) ∙ ap sort_back (p ∙ sym q) ∙ sort-back r₂
 
+pub sort_try_from_determined : Determined 0 sort_of_byte.try_from.Kinds.ps sort_of_byte.try_from.Kinds.r sort_of_byte.try_from.Reads.Post
+sort_try_from_determined κs a x y r₁ r₂ p q = sym (sort-back r₁) ∙ ap sort_back (p ∙ sym q) ∙ sort-back r₂
+
 pub sort_value_determined : Determined 0 sort-value-kinds.ps sort-value-kinds.r sort-value.Post
 sort_value_determined κs a x y r₁ r₂ p q = p ∙ sym q
 
-pub sort_refusal_determined : Determined 0 sort-refusal-kinds.ps sort-refusal-kinds.r sort-refusal.Post
-sort_refusal_determined κs a x y r₁ r₂ p q = p ∙ sym q
+pub sort_into_byte_determined : Determined 0 byte_of_sort.from.Kinds.ps byte_of_sort.from.Kinds.r byte_of_sort.from.Reads.Post
+sort_into_byte_determined κs a x y r₁ r₂ p q = p ∙ sym q
 
 pub service_from_byte_determined : Determined 0 service-from-byte-kinds.ps service-from-byte-kinds.r service-from-byte.Post
 service_from_byte_determined κs a x y r₁ r₂ p q = sym (service-answer-back r₁) ∙ ap service_answer_back (p ∙ sym q) ∙ service-answer-back r₂
 
+pub service_try_from_determined : Determined 0 service_of_byte.try_from.Kinds.ps service_of_byte.try_from.Kinds.r service_of_byte.try_from.Reads.Post
+service_try_from_determined κs a x y r₁ r₂ p q = sym (service-answer-back r₁) ∙ ap service_answer_back (p ∙ sym q) ∙ service-answer-back r₂
+
 pub service_value_determined : Determined 0 service-value-kinds.ps service-value-kinds.r service-value.Post
 service_value_determined κs a x y r₁ r₂ p q = p ∙ sym q
 
-pub service_refusal_determined : Determined 0 service-refusal-kinds.ps service-refusal-kinds.r service-refusal.Post
-service_refusal_determined κs a x y r₁ r₂ p q = p ∙ sym q
+pub service_into_byte_determined : Determined 0 byte_of_service.from.Kinds.ps byte_of_service.from.Kinds.r byte_of_service.from.Reads.Post
+service_into_byte_determined κs a x y r₁ r₂ p q = p ∙ sym q
 
 pub is_listed_determined : Determined 0 is-listed-kinds.ps is-listed-kinds.r is-listed.Post
 is_listed_determined κs a x y r₁ r₂ p q = p ∙ sym q
@@ -133,24 +139,24 @@ response_back m = record {
   position = record { file_position = m.position };
 }
 
-abbrev routine_request_of : Bool → ℕ → RoutineControlSubFunction → Place → MessageAnswer
+abbrev routine_request_of : Bool → ℕ → RoutineControlSubFunction → Place → Result Message Refusal
 routine_request_of suppress identifier f p =
-    MessageAnswer.RoutineRequest (record { suppress_positive_response = suppress; sub_function = f; routine_id = identifier; option_record = p })
+    Ok (Message.RoutineRequest (record { suppress_positive_response = suppress; sub_function = f; routine_id = identifier; option_record = p }))
 
-abbrev routine_response_of : ℕ → RoutineControlSubFunction → Place → MessageAnswer
-routine_response_of identifier f p = MessageAnswer.RoutineResponse (record { sub_function = f; routine_id = identifier; status_record = p })
+abbrev routine_response_of : ℕ → RoutineControlSubFunction → Place → Result Message Refusal
+routine_response_of identifier f p = Ok (Message.RoutineResponse (record { sub_function = f; routine_id = identifier; status_record = p }))
 
-abbrev negative_of : ℕ → Bool → Service → MessageAnswer
-negative_of c listed k = MessageAnswer.Negative (record { service = k; code = c; listed = listed })
+abbrev negative_of : ℕ → Bool → Service → Result Message Refusal
+negative_of c listed k = Ok (Message.Negative (record { service = k; code = c; listed = listed }))
 
 -- the answer about a message of n bytes that the paper's stands for
-abbrev pub message_back : ℕ → Answer (Read WholeMessage) → MessageAnswer
-message_back n (accepted (a_file_request m leaving t)) = MessageAnswer.FileRequest (request_back m) (n - length t)
+abbrev pub message_back : ℕ → Answer (Read WholeMessage) → Result Message Refusal
+message_back n (accepted (a_file_request m leaving t)) = Ok (Message.FileRequest (request_back m) (n - length t))
 message_back n (accepted (a_routine_request m leaving t)) = routine_request_of m.suppress m.identifier (sub_back m.sub_function) (place_of 4 (length m.«record»))
-message_back n (accepted (a_file_response m leaving t)) = MessageAnswer.FileResponse (response_back m) (n - length t)
+message_back n (accepted (a_file_response m leaving t)) = Ok (Message.FileResponse (response_back m) (n - length t))
 message_back n (accepted (a_routine_response m leaving t)) = routine_response_of m.identifier (sub_back m.sub_function) (place_of 4 (length m.«record»))
 message_back n (accepted (a_negative_answer m leaving t)) = negative_of m.code m.listed (service_back m.service)
-message_back n (refused e) = MessageAnswer.Refused (refusal_back e)
+message_back n (refused e) = Err (refusal_back e)
 
 -- a record comes back from what it means
 request-back : (s : List ℕ) (q : RequestFileTransferRequest) (tail : ℕ) → RequestPlaced s q tail → request_back (request.meant s q) ≡ q
@@ -161,17 +167,17 @@ response-back : (s : List ℕ) (q : RequestFileTransferResponse) (tail : ℕ) �
 response-back s q tail h =
     rw (kind-back q.kind, place_back s q.max_number_of_block_length h.begins h.ends, file-sizes-back q.file_size h.halves.0 h.halves.1)
 
-message-back : (s : List ℕ) (r : MessageAnswer) → message_placed s r → message_back (length s) (message_said s r) ≡ r
-message-back s (MessageAnswer.FileRequest q tail) h = ap₂ MessageAnswer.FileRequest (request-back s q tail h) (tail_back s tail h.within)
-message-back s (MessageAnswer.RoutineRequest q) h =
+message-back : (s : List ℕ) (r : Result Message Refusal) → message_placed s r → message_back (length s) (message_said s r) ≡ r
+message-back s (Ok (Message.FileRequest q tail)) h = ap₂ (λ (m : RequestFileTransferRequest) (t : ℕ). Ok (Message.FileRequest m t)) (request-back s q tail h) (tail_back s tail h.within)
+message-back s (Ok (Message.RoutineRequest q)) h =
     ap₂ (routine_request_of q.suppress_positive_response q.routine_id) (sub_back_lem q.sub_function) (place_back s q.option_record h.0 (omega (arith, h.0, h.1)))
-message-back s (MessageAnswer.FileResponse q tail) h = ap₂ MessageAnswer.FileResponse (response-back s q tail h) (tail_back s tail h.within)
-message-back s (MessageAnswer.RoutineResponse q) h = ap₂ (routine_response_of q.routine_id) (sub_back_lem q.sub_function) (place_back s q.status_record h.0 (omega (arith, h.0, h.1)))
-message-back s (MessageAnswer.Negative q) h = ap (negative_of q.code q.listed) (service-back q.service)
-message-back s (MessageAnswer.Refused e) h = ap MessageAnswer.Refused (refusal-back e)
+message-back s (Ok (Message.FileResponse q tail)) h = ap₂ (λ (m : RequestFileTransferResponse) (t : ℕ). Ok (Message.FileResponse m t)) (response-back s q tail h) (tail_back s tail h.within)
+message-back s (Ok (Message.RoutineResponse q)) h = ap₂ (routine_response_of q.routine_id) (sub_back_lem q.sub_function) (place_back s q.status_record h.0 (omega (arith, h.0, h.1)))
+message-back s (Ok (Message.Negative q)) h = ap (negative_of q.code q.listed) (service-back q.service)
+message-back s (Err e) h = ap Err (refusal-back e)
 
 -- the answer to a message is the paper's, led back
-pub message-is : {s : List ℕ} {r : MessageAnswer} → MessageRight s r → r ≡ message_back (length s) (read_message s)
+pub message-is : {s : List ℕ} {r : Result Message Refusal} → MessageRight s r → r ≡ message_back (length s) (read_message s)
 message-is {s} {r} h = sym (message-back s r h.place) ∙ ap (message_back (length s)) h.paper
 
 pub read_message_determined : Determined 1 read-message-kinds.ps read-message-kinds.r read-message.Post

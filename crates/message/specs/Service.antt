@@ -1,13 +1,12 @@
 -- The paper's sorts and services for the code's, and what the answers about a service byte say.
+use Rattle.std.specs.Prelude.{Result, Ok, Err}
 use Rattle.paper.specs.Answer.{Answer, accepted, refused}
 use Rattle.paper.specs.WholeMessage as paper
 use Rattle.paper.specs.WholeMessage.{file_request, routine_request, file_response, routine_response, negative_answer, file_transfer, routine_control}
 use Rattle.wire.specs.Refusals.{row}
 use Rattle.wire.specs.declared.refusal.Refusal.{Refusal}
 use Rattle.message.specs.declared.service.Sort.{Sort}
-use Rattle.message.specs.declared.service.SortAnswer.{SortAnswer}
 use Rattle.message.specs.declared.service.Service.{Service}
-use Rattle.message.specs.declared.service.ServiceAnswer.{ServiceAnswer}
 
 -- ---- sorts
 abbrev pub sort_of : Sort → paper.Sort
@@ -17,23 +16,15 @@ sort_of Sort.FileResponse = file_response
 sort_of Sort.RoutineResponse = routine_response
 sort_of Sort.NegativeAnswer = negative_answer
 
-abbrev pub sort_said : SortAnswer → Answer paper.Sort
-sort_said (SortAnswer.Accepted k) = accepted (sort_of k)
-sort_said (SortAnswer.Refused e) = refused (row e)
-
-abbrev pub sort_refusal : SortAnswer → Refusal
-sort_refusal (SortAnswer.Accepted k) = Refusal.WrongFormat 0
-sort_refusal (SortAnswer.Refused e) = e
+abbrev pub sort_said : Result Sort Refusal → Answer paper.Sort
+sort_said (Ok k) = accepted (sort_of k)
+sort_said (Err e) = refused (row e)
 
 -- ---- services
 abbrev pub service_of : Service → paper.Service
 service_of Service.FileTransfer = file_transfer
 service_of Service.RoutineControl = routine_control
 
-abbrev pub service_said : ServiceAnswer → Answer paper.Service
-service_said (ServiceAnswer.Accepted k) = accepted (service_of k)
-service_said (ServiceAnswer.Refused e) = refused (row e)
-
-abbrev pub service_refusal : ServiceAnswer → Refusal
-service_refusal (ServiceAnswer.Accepted k) = Refusal.WrongFormat 0
-service_refusal (ServiceAnswer.Refused e) = e
+abbrev pub service_said : Result Service Refusal → Answer paper.Service
+service_said (Ok k) = accepted (service_of k)
+service_said (Err e) = refused (row e)

@@ -1,13 +1,11 @@
 -- A message written behind its service byte: how the answer about the rest, and what it leaves in the buffer, become those about the whole.
-use Rattle.std.specs.Prelude.{◌≡◌, ℕ, ◌+◌, List, [], ◌∷◌, length, leb, eqb}
+use Rattle.std.specs.Prelude.{◌≡◌, ℕ, ◌+◌, ◌≤◌, List, [], ◌∷◌, length, eqb, Result}
+use Rattle.std.specs.Borrow.{MutBor}
+use Rattle.std.specs.Fn.{Once, FnOnceReturnsAtMut}
 use Rattle.paper.specs.Choice.{pick}
 use Rattle.paper.specs.Answer.{Refusal, no_room, Answer, accepted, refused, written}
-use Rattle.wire.specs.Writing.{told}
-use Rattle.wire.specs.declared.write.WriteAnswer.{WriteAnswer}
-
--- where the rest begins: behind the service byte, or at the start of a room that has none
-abbrev pub rest_start : ℕ → ℕ
-rest_start room = pick (leb 1 room) 1 0
+use Rattle.wire.specs.Writing.{told, Wrote}
+use Rattle.wire.specs.declared.refusal.Refusal as wire
 
 -- 7 counts the service byte in what is needed, and in the room
 abbrev pub refusal_on : (room : ℕ) → Refusal → Refusal
@@ -33,6 +31,15 @@ contents_on service (accepted n) room = (written (accepted (service ∷ [])) roo
 contents_on service (refused r) room = room
 
 -- what putting the service byte promises, where w is what was answered about the rest
-pub record ServicePut (service : ℕ) (w : WriteAnswer) (old : List ℕ) (r : WriteAnswer) (new : List ℕ) : Type 0 where
+pub record ServicePut (service : ℕ) (w : Result ℕ wire.Refusal) (old : List ℕ) (r : Result ℕ wire.Refusal) (new : List ℕ) : Type 0 where
   pub answer : told r ≡ answer_on (length old) (told w)
   pub contents : new ≡ contents_on service (told w) old
+
+-- what can be led by a service byte: bytes, at least one and at most 65,572, or refusal 2
+abbrev pub Leads : Answer (List ℕ) → Type 0
+Leads (accepted u) = (1 ≤ length u) × (length u ≤ 65572)
+Leads (refused r) = r.number ≡ 2
+
+-- a call of `write` writes the message into whatever room it is lent
+abbrev pub Writes : {F : Type 0} → Once F (MutBor (List ℕ) × Unit {0}) (Result ℕ wire.Refusal × (MutBor (List ℕ) × Unit {0})) → F → Answer (List ℕ) → Type 0
+Writes g write message = (old : List ℕ) (r : Result ℕ wire.Refusal) (new : List ℕ) → FnOnceReturnsAtMut g write old r new → Wrote message old r new
