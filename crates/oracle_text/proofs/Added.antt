@@ -16,7 +16,8 @@ use Rattle.paper.specs.Choice.{pick, both}
 use Rattle.paper.specs.Answer.{accepted, over}
 use Rattle.paper.specs.ReadingProgram.{ascii}
 use Rattle.wire.specs.Writing.{Wrote, Filled}
-use Rattle.wire.specs.declared.write.WriteAnswer.{WriteAnswer}
+use Rattle.std.specs.Prelude.{Result}
+use Rattle.wire.specs.declared.refusal.Refusal.{Refusal}
 use Rattle.wire.proofs.Over.{over_length, rest, back, filled_more}
 use Rattle.wire.proofs.Writes.{filled}
 use Rattle.oracle_text.proofs.Counts.{counts}
@@ -53,7 +54,7 @@ unfolding over
 front {held} n h = record { given_room = λ _. rw (length-take-le n held h, take-append-drop) }
 
 -- there is: they are written into the rest of the buffer
-pub adds : {bytes new : List ℕ} {r : WriteAnswer} (held : List ℕ) (n : ℕ) → 0 < n → n + length bytes ≤ length held → Wrote (accepted bytes) (rest n held) r new
+pub adds : {bytes new : List ℕ} {r : Result ℕ Refusal} (held : List ℕ) (n : ℕ) → 0 < n → n + length bytes ≤ length held → Wrote (accepted bytes) (rest n held) r new
     → Stands (add bytes (text n held)) (n + length bytes) (back n held new)
 unfolding add
 adds {bytes} {new} held n some h w =

@@ -1,4 +1,3 @@
 pub mod Counts
-pub mod Halves
 pub mod Added
 pub mod Unique

@@ -7,13 +7,12 @@ ghost use Rattle.oracle_text.specs.Text.{Stands, text, add_refused, add_written}
 
 use crate::text::{put_number, put_numbers};
 use wire::refusal::Refusal;
-use wire::write::WriteAnswer;
 
 // 1 for yes.
 pub fn flag(yes: bool) -> u64
     ensures { result ≡ pick yes 1 0 }
 {
-    if yes { 1 } else { 0 }
+    u64::from(yes)
 }
 
 // A refusal, and zeros for what was not read.
@@ -22,23 +21,21 @@ pub fn put_refused(e: Refusal, zeros: usize, out: &mut [u8], at: usize) -> usize
 {
     let numbers = [e.number() as u64, e.first() as u64, e.second() as u64];
     let mut end = put_numbers(&numbers, out, at);
-    let mut i = 0;
-    while i < zeros {
+    for _zero in 0..zeros {
         end = put_number(0, out, end);
-        i += 1;
     }
     end
 }
 
 // How many bytes were written, or the refusal.
-pub fn put_written(a: WriteAnswer, out: &mut [u8], at: usize) -> usize
+pub fn put_written(a: Result<usize, Refusal>, out: &mut [u8], at: usize) -> usize
     ensures { Stands (add_written (told a) (text at out.old)) result out.new }
 {
     match a {
-        WriteAnswer::Accepted(n) => {
+        Ok(n) => {
             let numbers = [0, 0, 0, n as u64];
             put_numbers(&numbers, out, at)
         }
-        WriteAnswer::Refused(e) => put_refused(e, 1, out, at),
+        Err(e) => put_refused(e, 1, out, at),
     }
 }

@@ -2,16 +2,13 @@
 ghost use Rattle.std.specs.Prelude.{◌≡◌, ◌%◌, ◌^◌};
 ghost use Rattle.oracle_text.specs.Input.{number_at, SizeIs};
 
-use wire::group::{SizeAnswer, read_be_uint};
+use wire::group::read_be_uint;
 use wire::size::Size;
 
 fn uint_at(input: &[u8], at: usize, width: usize) -> Size
     ensures { SizeIs (number_at width at input.now) result }
 {
-    match read_be_uint(input, at, width) {
-        SizeAnswer::Accepted(size, _) => size,
-        SizeAnswer::Refused(_) => Size { high: 0, low: 0 },
-    }
+    read_be_uint(input, at, width).map_or(Size { high: 0, low: 0 }, |(size, _)| size)
 }
 
 // In 16 bytes.
@@ -25,8 +22,7 @@ pub fn size_at(input: &[u8], at: usize) -> Size
 pub fn number_at(input: &[u8], at: usize, width: usize) -> u64
     ensures { result ≡ number_at width at input.now % 2 ^ 64 }
 {
-    let size = uint_at(input, at, width);
-    size.low
+    uint_at(input, at, width).low
 }
 
 // In two bytes.
