@@ -1,4 +1,3 @@
 pub mod Steps
-pub mod Cases
 pub mod Unique
 pub mod TrueReasons

@@ -1,6 +1,6 @@
 -- The checks of a message, field by field: those of one field fail exactly as its reader refuses, and the refusal tells which of them.
 -- Assumes nothing.
-use mathlib.Core.Path.{◌≡◌, refl, ap, sym, ◌∙◌}
+use mathlib.Core.Path.{◌≡◌, refl, ap, sym, subst, ◌∙◌}
 use Prim.Native.Nat.{ℕ, ◌+◌, ◌*◌, ◌-◌, ◌≤◌, ◌<◌}
 use mathlib.Core.Bool.{Bool, true, false}
 use mathlib.Core.List.{List, [], ◌∷◌}
@@ -18,14 +18,21 @@ use Rattle.paper.specs.Field.{byte, number, counted, name, block_length, size_gr
 use Rattle.paper.specs.Request.{AfterName, format_and_sizes, nothing, format_only, after_name}
 use Rattle.paper.specs.Response.{AfterFormat, nothing as nothingMore, two_sizes, one_size, one_position, AfterMode, ended, block_and_format, after_mode}
 use Rattle.paper.specs.Reason.{Fault, no_mode, no_name_length, cut_name, not_utf8, no_such_mode, no_format, no_width, cut_sizes, wrong_width, no_count, cut_block}
-use Rattle.paper.specs.Reason.{cut_position, Verdict, all_pass, stops, first_failed, number_at, mode_in, among, any_kind, name_end, has_format}
+use Rattle.paper.specs.Reason.{cut_position, Verdict, all_pass, stops, first_failed, number_at, mode_in, among, any_kind, name_end, block_end, has_format}
 use Rattle.paper.specs.Reason.{has_sizes, with_format, with_sizes, request_checks, last_at, is_two_sizes, is_one_size, is_position, any_last, has_last, with_last}
 use Rattle.paper.specs.Reason.{with_position, response_checks}
 use Rattle.paper.proofs.Choice.{never}
 use Rattle.paper.proofs.Reason.{unknown-is}
 use Rattle.paper.proofs.Places.{on, off, pass, fail, no_byte, one_byte, number_short, number_there, counted-short, counted-cut, counted_there, group_short}
 use Rattle.paper.proofs.Places.{group_cut, group_narrow, group_wide, group_good}
-use Rattle.wire.specs.Reading.{Seen, said, Right}
+use Rattle.std.specs.Prelude.{Result, Ok, Err, MatchResult}
+use Rattle.wire.specs.Reading.{Seen, Right}
+use Rattle.wire.specs.Number.{ByteRight}
+use Rattle.wire.specs.Place.{CountedRight}
+use Rattle.wire.specs.declared.place.Place.{Place}
+use Rattle.request_file_transfer.specs.Name.{NameRight}
+use Rattle.wire.specs.declared.refusal.Refusal as code
+use Rattle.reason.specs.declared.reason.Reason.{Reason}
 use Rattle.reason.specs.Step.{always, name_fault, block_fault, sizes_fault, after, why_after_name, why_after_format, why_after_mode, why_kind, why_request, why_response}
 
 -- ---- one field after the other, with what is read on the right, as a contract has it
@@ -38,14 +45,18 @@ module _ {A : Type 0} {o : Answer (Read A)} (fault : Refusal → Fault) (at : �
   pub step_off : {r : Refusal} {v : Verdict} → refused r ≡ o → v ≡ stops (fault r) at r → v ≡ after o fault at rest
   step_off e h = h ∙ ap (λ (i : Answer (Read A)). after i fault at rest) e
 
-  -- the same, with what is wrong told from the refusal
-  pub step_named : {r : Refusal} {v : Verdict} {f : Fault} → refused r ≡ o → f ≡ fault r → v ≡ stops f at r → v ≡ after o fault at rest
-  step_named {r} e is h = step_off e (h ∙ ap (λ (i : Fault). stops i at r) is)
+-- an answer that was handed on as y by a call that names refusals is y
+abbrev pub HandedOn : {A : Type 0} → Result A code.Refusal → A → Type 0
+HandedOn {A} r y = MatchResult r (λ (x : A). ◌≡◌ {A = Result A Reason} (Ok y) (Ok x)) (λ e. ⊥)
+
+pub ok_is : {A : Type 0} (r : Result A code.Refusal) (y : A) → HandedOn r y → r ≡ Ok y
+ok_is (Ok x) y same = cc
+ok_is (Err e) y none = absurd none
 
 -- what a callee promised of a field, once its answer is known
-pub seen_as : {A M : Type 0} {meaning : A → M} {field : Reader M} {Place : A → ℕ → Type 0} {s : List ℕ} {at : ℕ} {x y : Seen A}
-    → Right A M meaning field Place s at x → x ≡ y → said meaning s y ≡ field (drop at s)
-seen_as {meaning = meaning} {s = s} right is = sym (ap (said meaning s) is) ∙ right.paper
+pub seen_as : {A M : Type 0} {meaning : A → M} {field : Reader M} {Place : A → ℕ → Type 0} {s : List ℕ} {at : ℕ} {x : Seen A} {y : A × ℕ}
+    → Right A M meaning field Place s at x → x ≡ Ok y → Right A M meaning field Place s at (Ok y)
+seen_as {A} {M} {meaning} {field} {Place} {s} {at} right is = subst (Right A M meaning field Place s at) is right
 
 -- ---- the checks of one field
 module _ (s : List ℕ) (at : ℕ) (v : Verdict) where
@@ -141,15 +152,6 @@ kind_step b v rest h = go (known b) refl
     go (accepted k) e = h k e
     go (refused r) e = ap (stops no_such_mode 0) (unknown-is mode_of unknown_mode b kinds r e)
 
-module _ {a : Answer Kind} (rest : Kind → Verdict) where
-  -- the kind is known: its rest decides
-  pub kind_on : {k : Kind} {v : Verdict} → accepted k ≡ a → v ≡ rest k → v ≡ why_kind a rest
-  kind_on e h = h ∙ ap (λ (i : Answer Kind). why_kind i rest) e
-
-  -- it is not: the message stops at the mode
-  pub kind_off : {r : Refusal} {v : Verdict} → refused r ≡ a → v ≡ stops no_such_mode 0 r → v ≡ why_kind a rest
-  kind_off e h = h ∙ ap (λ (i : Answer Kind). why_kind i rest) e
-
 -- ---- a message
 module _ (s : List ℕ) where
   after_name_step : (h : AfterName) → has_format h ≡ with_format s → has_sizes h ≡ with_sizes s → first_failed (drop 5 request_checks) s ≡ why_after_name h s (name_end s)
@@ -243,3 +245,22 @@ module _ (s : List ℕ) where
       go : (o : Answer (Read (List ℕ))) → accepted (x leaving t) ≡ onward o (λ (n : List ℕ). judge (is_utf8 n) (wrong_format (valid_up_to n)) n) → accepted (x leaving t) ≡ o
       go (accepted (y leaving u)) i = judged y u (is_utf8 y) i
       go (refused r) i = absurd (never (sym i))
+
+  -- ---- what was read, of answers that were handed on by a call that names refusals
+  -- the mode
+  pub mode_read : (r : Seen ℕ) (b next : ℕ) → ByteRight s 0 r → HandedOn r (b, next) → b ≡ mode_in s
+  mode_read r b next right same = mode-is (seen_as right (ok_is r (b, next) same)).paper
+
+  -- where the name ends
+  pub name_read : (r : Seen Place) (place : Place) (next : ℕ) → NameRight s 1 r → HandedOn r (place, next) → next ≡ name_end s
+  name_read r place next right same =
+      let name = seen_as right (ok_is r (place, next) same) in
+      let (begins, ends, within) = name.place in
+      counted_end 2 1 place.start place.len (name-counted 1 name.paper) begins ends within
+
+  -- where the block length ends
+  pub block_read : (r : Seen Place) (place : Place) (next : ℕ) → CountedRight 1 s 1 r → HandedOn r (place, next) → next ≡ block_end s
+  block_read r place next right same =
+      let block = seen_as right (ok_is r (place, next) same) in
+      let (begins, ends, within) = block.place in
+      counted_end 1 1 place.start place.len block.paper begins ends within

@@ -11,42 +11,44 @@ use Rattle.paper.specs.Reason.{Check, first_failed, request_checks, request_judg
 use Rattle.paper.proofs.Choice.{never}
 use Rattle.paper.proofs.Reason.{request-reason, response-reason, same-refusal}
 use Rattle.wire.specs.Refusals.{row}
-use Rattle.wire.specs.Reading.{Seen, found, stopped, said}
+use Rattle.std.specs.Prelude.{Ok, Err}
+use Rattle.wire.specs.Reading.{Seen, said}
 use Rattle.wire.specs.declared.refusal.Refusal.{Refusal}
 use Rattle.wire.proofs.Refusals.{refusal_once}
 use Rattle.file_operation.specs.Calls.{OneSlice}
+use Rattle.request_file_transfer.specs.Reading as request-meant
 use Rattle.request_file_transfer.specs.declared.read.RequestFileTransferRequest.{RequestFileTransferRequest}
 use Rattle.request_file_transfer.proofs.DemandThree.{ReadRequestCall, requests-keep}
+use Rattle.request_file_transfer_response.specs.Reading as response-meant
 use Rattle.request_file_transfer_response.specs.declared.read.RequestFileTransferResponse.{RequestFileTransferResponse}
 use Rattle.request_file_transfer_response.proofs.DemandThree.{ReadResponseCall, responses_keep}
-use Rattle.reason.specs.Reason.{fault_said, why_said}
+use Rattle.reason.specs.Reason.{fault_said, Why, why_said}
 use Rattle.reason.specs.Calls.{AskCall, TrueReasons}
-use Rattle.reason.specs.declared.reason.ReasonAnswer.{ReasonAnswer}
 use Rattle.reason.proofs.Unique.{answer_once}
 use Rattle.reason.proofs.request.why_request.Reads as why-request
 use Rattle.reason.proofs.response.why_response.Reads as why-response
 
 -- what a call that asks why promised of its message
-told : {Post : Lfts 1 → OneSlice → ReasonAnswer → OneSlice → Type 0} (checks : List Check)
-    → ((κs : Lfts 1) (a : OneSlice) (r : ReasonAnswer) (x : OneSlice) → Post κs a r x → why_said r ≡ first_failed checks a.0.now)
-    → (s : List ℕ) (r : ReasonAnswer) → AskCall Post s r → why_said r ≡ first_failed checks s
+told : {Post : Lfts 1 → OneSlice → Why → OneSlice → Type 0} (checks : List Check)
+    → ((κs : Lfts 1) (a : OneSlice) (r : Why) (x : OneSlice) → Post κs a r x → why_said r ≡ first_failed checks a.0.now)
+    → (s : List ℕ) (r : Why) → AskCall Post s r → why_said r ≡ first_failed checks s
 told checks post s r c = post _ _ _ _ c.met ∙ ap (first_failed checks) c.lent
 
 -- an answer that the paper refuses is that refusal
-refused-is : {Q M : Type 0} (meaning : Q → M) (s : List ℕ) (y : Seen Q) (e : Refusal) → said meaning s y ≡ refused (row e) → y ≡ stopped e
-refused-is meaning s (found q tail) e h = absurd (never (sym h))
-refused-is meaning s (stopped i) e h = let same : row i ≡ row e = cc in ap stopped (refusal_once same)
+refused-is : {Q M : Type 0} (meaning : Q → M) (s : List ℕ) (y : Seen Q) (e : Refusal) → said meaning s y ≡ refused (row e) → y ≡ Err e
+refused-is meaning s (Ok (q, tail)) e h = absurd (never (sym h))
+refused-is meaning s (Err i) e h = let same : row i ≡ row e = cc in ap Err (refusal_once same)
 
 -- one that it accepts was found
-found-is : {Q M : Type 0} (meaning : Q → M) (s : List ℕ) (y : Seen Q) {v : Read M} → said meaning s y ≡ accepted v → (q : Q) × (tail : ℕ) × (y ≡ found q tail)
-found-is meaning s (found q tail) h = (q, tail, refl)
-found-is meaning s (stopped i) h = absurd (never h)
+found-is : {Q M : Type 0} (meaning : Q → M) (s : List ℕ) (y : Seen Q) {v : Read M} → said meaning s y ≡ accepted v → (q : Q) × (tail : ℕ) × (y ≡ Ok (q, tail))
+found-is meaning s (Ok (q, tail)) h = (q, tail, refl)
+found-is meaning s (Err i) h = absurd (never h)
 
 -- calls of a reader and of one that asks why, each of which keeps to the paper
-module _ {Q M : Type 0} {meaning : List ℕ → Q → M} {read : Reader M} {checks : List Check} {end : paper.Refusal → List ℕ → ℕ}
-    {Reads : List ℕ → Seen Q → Type 0} {Asks : List ℕ → ReasonAnswer → Type 0} (true-reason : TrueReason M read checks end)
+module _ {Q M : Type 0} (meaning : List ℕ → Q → M) {read : Reader M} {checks : List Check} {end : paper.Refusal → List ℕ → ℕ}
+    {Reads : List ℕ → Seen Q → Type 0} {Asks : List ℕ → Why → Type 0} (true-reason : TrueReason M read checks end)
     (reads : (s : List ℕ) (y : Seen Q) → Reads s y → said (meaning s) s y ≡ read s)
-    (asks : (s : List ℕ) (r : ReasonAnswer) → Asks s r → why_said r ≡ first_failed checks s) where
+    (asks : (s : List ℕ) (r : Why) → Asks s r → why_said r ≡ first_failed checks s) where
   pub calls_true_reasons : TrueReasons Q Reads Asks checks end
   calls_true_reasons = record {
     refuses = λ {s} {x} {y} a c. refused-is (meaning s) s y x.refusal (reads s y c ∙ (true-reason.refuses s (row x.refusal)).1 (fault_said x.fault, x.offset, sym (asks s _ a)));
@@ -63,14 +65,14 @@ module _ {Q M : Type 0} {meaning : List ℕ → Q → M} {read : Reader M} {chec
   }
 
 -- the calls of `why_request` and of `why_response` that kept their contracts
-abbrev pub WhyRequestCall : List ℕ → ReasonAnswer → Type 0
+abbrev pub WhyRequestCall : List ℕ → Why → Type 0
 WhyRequestCall = AskCall why-request.Post
 
-abbrev pub WhyResponseCall : List ℕ → ReasonAnswer → Type 0
+abbrev pub WhyResponseCall : List ℕ → Why → Type 0
 WhyResponseCall = AskCall why-response.Post
 
 pub requests_true_reasons : TrueReasons RequestFileTransferRequest ReadRequestCall WhyRequestCall request_checks request_judged
-requests_true_reasons = calls_true_reasons request-reason (λ s y c. ((requests-keep.reads s y).0 c).paper) (told request_checks (λ κs a r x p. p))
+requests_true_reasons = calls_true_reasons request-meant.meant request-reason (λ s y c. ((requests-keep.reads s y).0 c).paper) (told request_checks (λ κs a r x p. p))
 
 pub responses_true_reasons : TrueReasons RequestFileTransferResponse ReadResponseCall WhyResponseCall response_checks response_judged
-responses_true_reasons = calls_true_reasons response-reason (λ s y c. ((responses_keep.reads s y).0 c).paper) (told response_checks (λ κs a r x p. p))
+responses_true_reasons = calls_true_reasons response-meant.meant response-reason (λ s y c. ((responses_keep.reads s y).0 c).paper) (told response_checks (λ κs a r x p. p))

@@ -1,16 +1,16 @@
 -- No second answer meets the contract of a function of this crate.
 -- Assumes nothing.
 use mathlib.Core.Path.{◌≡◌, refl, sym, ap, ap₂, ◌∙◌}
+use Rattle.std.specs.Prelude.{Ok, Err}
 use Rattle.paper.specs.Reason as paper
 use Rattle.paper.specs.Reason.{mode, name, format_byte, size_group, block_length, position, no_mode, no_name_length, cut_name, not_utf8, no_such_mode, no_format}
 use Rattle.paper.specs.Reason.{no_width, cut_sizes, wrong_width, no_count, cut_block, cut_position, Verdict, all_pass, stops}
 use Rattle.wire.specs.declared.refusal.Refusal.{Refusal}
 use Rattle.wire.proofs.Refusals.{refusal_back, refusal-back}
 use Rattle.wire.proofs.Unique.{Determined}
-use Rattle.reason.specs.Reason.{field_said, fault_said, why_said}
+use Rattle.reason.specs.Reason.{field_said, fault_said, Why, why_said, reason_of}
 use Rattle.reason.specs.declared.reason.Field.{Field}
 use Rattle.reason.specs.declared.reason.Fault.{Fault}
-use Rattle.reason.specs.declared.reason.ReasonAnswer.{ReasonAnswer}
 use Rattle.reason.proofs.reason.Fault.field.Kinds as field-kinds
 use Rattle.reason.proofs.reason.Fault.field.Reads as field
 use Rattle.reason.proofs.request.why_request.Kinds as why-request-kinds
@@ -64,17 +64,16 @@ fault-back Fault.CutBlock = refl
 fault-back Fault.CutPosition = refl
 
 -- ---- so do answers
-abbrev answer_back : Verdict → ReasonAnswer
-answer_back all_pass = ReasonAnswer.Accepted
-answer_back (stops f o r) = ReasonAnswer.Refused (record { refusal = refusal_back r; offset = o; fault = fault_back f })
+abbrev answer_back : Verdict → Why
+answer_back all_pass = Ok tt
+answer_back (stops f o r) = Err (reason_of (fault_back f) o (refusal_back r))
 
-answer_back_lem : (r : ReasonAnswer) → answer_back (why_said r) ≡ r
-answer_back_lem ReasonAnswer.Accepted = refl
-answer_back_lem (ReasonAnswer.Refused x) =
-    ap₂ (λ (e : Refusal) (f : Fault). ReasonAnswer.Refused (record { refusal = e; offset = x.offset; fault = f })) (refusal-back x.refusal) (fault-back x.fault)
+answer_back_lem : (r : Why) → answer_back (why_said r) ≡ r
+answer_back_lem (Ok none) = refl
+answer_back_lem (Err x) = ap₂ (λ (e : Refusal) (f : Fault). Err (reason_of f x.offset e)) (refusal-back x.refusal) (fault-back x.fault)
 
 -- two answers that say the same are the same
-pub answer_once : {r₁ r₂ : ReasonAnswer} → why_said r₁ ≡ why_said r₂ → r₁ ≡ r₂
+pub answer_once : {r₁ r₂ : Why} → why_said r₁ ≡ why_said r₂ → r₁ ≡ r₂
 answer_once {r₁} {r₂} e = sym (answer_back_lem r₁) ∙ ap answer_back e ∙ answer_back_lem r₂
 
 pub field_determined : Determined 0 field-kinds.ps field-kinds.r field.Post

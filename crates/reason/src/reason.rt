@@ -1,12 +1,12 @@
 // A reason: what is wrong, where the field begins that it is about, and the refusal.
 ghost use Rattle.std.specs.Prelude.{◌≡◌};
 ghost use Rattle.paper.specs.Reason.{field_of};
-ghost use Rattle.reason.specs.Reason.{field_said, fault_said, why_said, why_stops};
+ghost use Rattle.reason.specs.Reason.{field_said, fault_said, reason_of};
 
 use wire::refusal::Refusal;
 
 // The fields of a file transfer request or response.
-#[derive(Clone, Copy)]
+#[derive(Clone, Copy, Debug, PartialEq, Eq)]
 pub enum Field {
     Mode,
     Name,
@@ -17,7 +17,7 @@ pub enum Field {
 }
 
 // What is wrong: one for each check.
-#[derive(Clone, Copy)]
+#[derive(Clone, Copy, Debug, PartialEq, Eq)]
 pub enum Fault {
     // The mode is missing: the message is empty.
     NoMode,
@@ -51,42 +51,32 @@ impl Fault {
         ensures { field_said result ≡ field_of (fault_said self) }
     {
         match self {
-            Fault::NoMode => Field::Mode,
-            Fault::NoNameLength => Field::Name,
-            Fault::CutName => Field::Name,
-            Fault::NotUtf8 => Field::Name,
-            Fault::NoSuchMode => Field::Mode,
+            Fault::NoMode | Fault::NoSuchMode => Field::Mode,
+            Fault::NoNameLength | Fault::CutName | Fault::NotUtf8 => Field::Name,
             Fault::NoFormat => Field::FormatByte,
-            Fault::NoWidth => Field::SizeGroup,
-            Fault::CutSizes => Field::SizeGroup,
-            Fault::WrongWidth => Field::SizeGroup,
-            Fault::NoCount => Field::BlockLength,
-            Fault::CutBlock => Field::BlockLength,
+            Fault::NoWidth | Fault::CutSizes | Fault::WrongWidth => Field::SizeGroup,
+            Fault::NoCount | Fault::CutBlock => Field::BlockLength,
             Fault::CutPosition => Field::Position,
         }
     }
 }
 
 // The offset counts bytes from the start of the message to where the field begins.
-#[derive(Clone, Copy)]
+#[derive(Clone, Copy, Debug, PartialEq, Eq)]
 pub struct Reason {
     pub refusal: Refusal,
     pub offset: usize,
     pub fault: Fault,
 }
 
-#[derive(Clone, Copy)]
-pub enum ReasonAnswer {
-    Accepted,
-    Refused(Reason),
-}
-
-pub(crate) fn stopped(fault: Fault, offset: usize, refusal: Refusal) -> ReasonAnswer
-    ensures { why_said result ≡ why_stops fault offset refusal }
-{
-    ReasonAnswer::Refused(Reason {
-        fault,
-        offset,
-        refusal,
-    })
+impl Reason {
+    pub(crate) fn new(fault: Fault, offset: usize, refusal: Refusal) -> Reason
+        ensures { result ≡ reason_of fault offset refusal }
+    {
+        Reason {
+            refusal,
+            offset,
+            fault,
+        }
+    }
 }

@@ -5,54 +5,57 @@ ghost use Rattle.request_file_transfer_response.specs.Layout.{more_of, layout_of
 ghost use Rattle.reason.specs.Reason.{why_said};
 ghost use Rattle.reason.specs.Step.{why_after_format, why_after_mode};
 
-use crate::reason::{Fault, ReasonAnswer, stopped};
-use crate::step::{block_fault, one_size, position, two_sizes};
-use file_operation::mode::{FileOperationMode, ModeAnswer};
-use request_file_transfer_response::layout::{AfterFormat, AfterMode, after_mode};
-use wire::number::{ByteAnswer, byte_at};
-use wire::place::{PlaceAnswer, counted_at};
+use crate::reason::{Fault, Reason};
+use crate::step::{block_fault, sizes_fault};
+use file_operation::mode::FileOperationMode;
+use request_file_transfer_response::layout::{AfterFormat, after_mode};
+use wire::group::{one_size_at, two_sizes_at};
+use wire::number::{byte_at, eight_at};
+use wire::place::counted_at;
 use wire::prefix::Prefix;
 
-fn after_the_format(layout: AfterFormat, s: &[u8], at: usize) -> ReasonAnswer
+fn after_the_format(layout: AfterFormat, s: &[u8], at: usize) -> Result<(), Reason>
     ensures { why_said result ≡ why_after_format (more_of layout) s.now at }
 {
     match layout {
-        AfterFormat::Nothing => ReasonAnswer::Accepted,
-        AfterFormat::TwoSizes => two_sizes(Prefix::Two, s, at),
-        AfterFormat::OneSize => one_size(Prefix::Two, s, at),
-        AfterFormat::Position => position(s, at),
+        AfterFormat::Nothing => {}
+        AfterFormat::TwoSizes => {
+            two_sizes_at(Prefix::Two, s, at).map_err(|e| Reason::new(sizes_fault(e), at, e))?;
+        }
+        AfterFormat::OneSize => {
+            one_size_at(Prefix::Two, s, at).map_err(|e| Reason::new(sizes_fault(e), at, e))?;
+        }
+        AfterFormat::Position => {
+            eight_at(s, at).map_err(|e| Reason::new(Fault::CutPosition, at, e))?;
+        }
     }
+    Ok(())
 }
 
-fn after_the_mode(layout: AfterMode, s: &[u8]) -> ReasonAnswer
+fn after_the_mode(layout: Option<AfterFormat>, s: &[u8]) -> Result<(), Reason>
     ensures { why_said result ≡ why_after_mode (layout_of layout) s.now }
 {
-    let AfterMode::BlockAndFormat(last) = layout else {
-        return ReasonAnswer::Accepted;
+    let Some(last) = layout else {
+        return Ok(());
     };
-    let b = counted_at(Prefix::One, s, 1);
-    let PlaceAnswer::Accepted(_, at_format) = b else {
-        let e = b.refusal();
-        return stopped(block_fault(e), 1, e);
-    };
-    let f = byte_at(s, at_format);
-    let ByteAnswer::Accepted(_, at_last) = f else {
-        return stopped(Fault::NoFormat, at_format, f.refusal());
-    };
+    let (_, at_format) = counted_at(Prefix::One, s, 1).map_err(|e| Reason::new(
+        block_fault(e),
+        1,
+        e,
+    ))?;
+    let (_, at_last) = byte_at(s, at_format).map_err(|e| Reason::new(
+        Fault::NoFormat,
+        at_format,
+        e,
+    ))?;
     after_the_format(last, s, at_last)
 }
 
-// An unknown mode is the reason at once. Bytes left over are no reason.
-pub fn why_response(s: &[u8]) -> ReasonAnswer
+// No reason where every check passes. An unknown mode is the reason at once. Bytes left over are no reason.
+pub fn why_response(s: &[u8]) -> Result<(), Reason>
     ensures { why_said result ≡ first_failed response_checks s.now }
 {
-    let m = byte_at(s, 0);
-    let ByteAnswer::Accepted(mode, _) = m else {
-        return stopped(Fault::NoMode, 0, m.refusal());
-    };
-    let k = FileOperationMode::from_byte(mode);
-    let ModeAnswer::Accepted(kind) = k else {
-        return stopped(Fault::NoSuchMode, 0, k.refusal());
-    };
+    let (mode, _) = byte_at(s, 0).map_err(|e| Reason::new(Fault::NoMode, 0, e))?;
+    let kind = FileOperationMode::try_from(mode).map_err(|e| Reason::new(Fault::NoSuchMode, 0, e))?;
     after_the_mode(after_mode(kind), s)
 }
