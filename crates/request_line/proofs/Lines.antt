@@ -11,7 +11,7 @@ use Rattle.paper.specs.Answer.{Refusal, Answer, accepted, refused}
 use Rattle.paper.specs.Bytes.{Bytes}
 use Rattle.paper.specs.Kind.{mode_of}
 use Rattle.paper.specs.Request.{AfterName, after_name, read_request, request_bytes, good_name, write_request}
-use Rattle.paper.specs.ReadingProgram.{Shown, format_shown, too_long, good, bad, line_for, line_of}
+use Rattle.paper.specs.ReadingProgram.{Shown, format_shown, too_long, good, line_for, line_of}
 use Rattle.paper.proofs.Choice.{never}
 use Rattle.paper.proofs.Request.{request-name}
 use Rattle.wire.specs.Place.{bytes_at}

@@ -13,6 +13,7 @@ use Rattle.wire.proofs.Refusals.{refusal_back, refusal-back}
 use Rattle.wire.proofs.Unique.{Determined}
 use Rattle.wire.proofs.UniqueWriting.{WritesOnce}
 use Rattle.request_line.specs.Line.{shown_of, line_said}
+use Rattle.request_line.specs.declared.line.Accepted.{Accepted}
 use Rattle.request_line.specs.declared.line.Line.{Line}
 use Rattle.request_line.proofs.line.line_of.Kinds as line-of-kinds
 use Rattle.request_line.proofs.line.line_of.Reads as Line-of
@@ -33,15 +34,18 @@ shown-back None = refl
 shown-back (Some b) = refl
 
 -- the line that the paper's stands for
+abbrev said : ℕ → ℕ → Option ℕ → ℕ → ℕ → Accepted
+said kind name format normal left = record { kind = kind; name = name; format = format; normal = normal; left = left }
+
 abbrev line_back : paper.Line → Line
 line_back too_long = Line.TooLong
-line_back (good kind name format normal left) = Line.Accepted kind name (shown_back format) normal left
+line_back (good kind name format normal left) = Line.Accepted (said kind name (shown_back format) normal left)
 line_back (bad e) = Line.Refused (refusal_back e)
 
 -- it comes back
 line-back : (r : Line) → line_back (line_said r) ≡ r
 line-back Line.TooLong = refl
-line-back (Line.Accepted kind name format normal left) = ap (λ (x : Option ℕ). Line.Accepted kind name x normal left) (shown-back format)
+line-back (Line.Accepted a) = ap (λ (x : Option ℕ). Line.Accepted (said a.kind a.name x a.normal a.left)) (shown-back a.format)
 line-back (Line.Refused e) = ap Line.Refused (refusal-back e)
 
 -- the input settles the line

@@ -3,12 +3,12 @@
 ghost use Rattle.std.specs.Prelude.{◌≡◌, ◌≤◌, length};
 ghost use Rattle.io.specs.Counts.{IsPrefixLen};
 ghost use Rattle.paper.specs.Answer.{over};
-ghost use Rattle.paper.specs.ReadingProgram.{shown_text, text_of, good, line_of};
+ghost use Rattle.paper.specs.ReadingProgram.{shown_text, text_of, line_of};
 ghost use Rattle.ascii_text.specs.Text.{Put};
-ghost use Rattle.request_line.specs.Line.{shown_of, line_said};
+ghost use Rattle.request_line.specs.Line.{shown_of, good_said, line_said};
 ghost use Rattle.request_line.specs.Text.{front};
 
-use crate::line::{Line, line_of};
+use crate::line::{Accepted, Line, line_of};
 use ascii_text::{put_decimal, put_field, put_refused};
 use wire::write::{put_byte, put_bytes};
 
@@ -25,32 +25,25 @@ fn put_shown(format: Option<u8>, out: &mut [u8]) -> usize
 }
 
 // `accepted kind K name N format F`.
-fn put_front(kind: u8, name: usize, format: Option<u8>, out: &mut [u8]) -> usize
+fn put_front(said: Accepted, out: &mut [u8]) -> usize
     requires { 160 ≤ length out.old }
-    ensures { Put (front kind name (shown_of format)) result 88 out.old out.new }
+    ensures { Put (front said.kind said.name (shown_of said.format)) result 88 out.old out.new }
 {
-    let a = put_field(b"accepted kind ", u64::from(kind), out);
-    let b = a + put_field(b" name ", name as u64, &mut out[a..]);
+    let a = put_field(b"accepted kind ", u64::from(said.kind), out);
+    let b = a + put_field(b" name ", said.name as u64, &mut out[a..]);
     let _ = put_bytes(b" format ", &mut out[b..]);
     let c = b + 8;
-    c + put_shown(format, &mut out[c..])
+    c + put_shown(said.format, &mut out[c..])
 }
 
 // That, then ` normal M left L` and the line feed.
-fn put_accepted(
-    kind: u8,
-    name: usize,
-    format: Option<u8>,
-    normal: usize,
-    left: usize,
-    out: &mut [u8],
-) -> usize
+fn put_accepted(said: Accepted, out: &mut [u8]) -> usize
     requires { 160 ≤ length out.old }
-    ensures { Put (text_of (good kind name (shown_of format) normal left)) result 160 out.old out.new }
+    ensures { Put (text_of (good_said said)) result 160 out.old out.new }
 {
-    let d = put_front(kind, name, format, out);
-    let e = d + put_field(b" normal ", normal as u64, &mut out[d..]);
-    let f = e + put_field(b" left ", left as u64, &mut out[e..]);
+    let d = put_front(said, out);
+    let e = d + put_field(b" normal ", said.normal as u64, &mut out[d..]);
+    let f = e + put_field(b" left ", said.left as u64, &mut out[e..]);
     let _ = put_byte(b'\n', &mut out[f..]);
     f + 1
 }
@@ -66,13 +59,7 @@ pub fn put_text(line: Line, out: &mut [u8; 4096]) -> usize
             let _ = put_bytes(b"too long\n", out);
             9
         }
-        Line::Accepted {
-            kind,
-            name,
-            format,
-            normal,
-            left,
-        } => { put_accepted(kind, name, format, normal, left, out) }
+        Line::Accepted(said) => put_accepted(said, out),
         Line::Refused(refusal) => put_refused(refusal, out),
     }
 }
