@@ -1,3 +1,4 @@
+pub mod Flats
 pub mod Written
 pub mod Transfers
 pub mod Routines

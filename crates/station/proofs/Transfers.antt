@@ -6,27 +6,31 @@ use mathlib.Core.List.{List}
 use native.Mathlib.Omega.{arith}
 use lib.ListN.{length, drop}
 use lib.Arith.{digits_div, digits_mod}
+use Rattle.std.specs.Prelude.{Ok, Err}
 use Rattle.paper.specs.Answer.{Refusal, Answer, accepted, refused, ◌leaving◌, Reader}
 use Rattle.paper.specs.Kind.{Kind, known}
 use Rattle.paper.specs.Request.{request, read_request, write_request}
 use Rattle.paper.specs.Response.{response, AfterMode, ended, block_and_format, after_mode, read_response, write_response}
+use Rattle.wire.specs.Refusals.{row}
+use Rattle.wire.specs.Reading.{Seen}
 use Rattle.wire.specs.Place.{bytes_at}
 use Rattle.wire.specs.declared.place.Place.{Place}
+use Rattle.wire.specs.Size.{value}
 use Rattle.wire.proofs.Unique.{tail_back, place_back}
 use Rattle.file_operation.specs.Mode.{kind_of}
+use Rattle.file_operation.specs.declared.payload.SizePayload.{SizePayload}
+use Rattle.file_operation.specs.declared.payload.FileSizePayload.{FileSizePayload}
 use Rattle.file_operation.specs.Rewriting.{retold, tail_within, Rewrote}
-use Rattle.file_operation.specs.declared.rewrite.RewriteAnswer.{RewriteAnswer}
 use Rattle.request_file_transfer.specs.Reading as requests
 use Rattle.request_file_transfer.specs.Reading.{RequestRight}
 use Rattle.request_file_transfer.specs.declared.read.RequestFileTransferRequest.{RequestFileTransferRequest}
-use Rattle.request_file_transfer.specs.declared.read.RequestAnswer.{RequestAnswer}
 use Rattle.request_file_transfer_response.specs.Reading as responses
 use Rattle.request_file_transfer_response.specs.Reading.{block_start, ResponseRight}
 use Rattle.request_file_transfer_response.specs.declared.read.RequestFileTransferResponse.{RequestFileTransferResponse}
-use Rattle.request_file_transfer_response.specs.declared.read.ResponseAnswer.{ResponseAnswer}
-use Rattle.station.specs.Records.{request_record, block_begins, response_record, rewritten_record, RewroteRecord}
-use Rattle.station.specs.Flat.{accepted_request, flat_request, accepted_response, flat_response, flat_rewrite}
-use Rattle.station.specs.Handed.{where_known, halves, request_handed, response_handed}
+use Rattle.station.specs.Records.{refused_transfer, request_record, block_begins, response_record, refused_rewriting, rewritten_record, RewroteRecord}
+use Rattle.station.specs.Flat.{RecordOf, accepted_request, accepted_response, accepted_rewriting}
+use Rattle.station.specs.declared.records.FileTransferRecord.{FileTransferRecord}
+use Rattle.station.specs.Handed.{where_known, halves, request_sizes, response_sizes, request_handed, response_handed}
 use Rattle.station.specs.declared.records.RewrittenRecord.{RewrittenRecord}
 
 -- ---- reading
@@ -51,9 +55,10 @@ accepted-request s q tail h =
     )
 
 -- the record of an answer to a request
-pub request_flat : (s : List ℕ) (a : RequestAnswer) → RequestRight s a → flat_request a ≡ request_record (length s) (read_request s)
-request_flat s (RequestAnswer.Accepted q tail) right = accepted-request s q tail right.place ∙ ap (request_record (length s)) right.paper
-request_flat s (RequestAnswer.Refused e) right = ap (request_record (length s)) right.paper
+pub request_flat : (s : List ℕ) (a : Seen RequestFileTransferRequest) {r : FileTransferRecord}
+    → RequestRight s a → RecordOf (λ x r. r ≡ accepted_request x.0 x.1) (λ e r. r ≡ refused_transfer (row e)) a r → r ≡ request_record (length s) (read_request s)
+request_flat s (Ok (q, tail)) right is = is ∙ accepted-request s q tail right.place ∙ ap (request_record (length s)) right.paper
+request_flat s (Err e) right is = is ∙ ap (request_record (length s)) right.paper
 
 -- where the block length begins
 block-begins : (h : AfterMode) → block_start h 1 ≡ block_begins h
@@ -78,29 +83,30 @@ accepted-response s q tail h =
     )
 
 -- the record of an answer to a response
-pub response_flat : (s : List ℕ) (a : ResponseAnswer) → ResponseRight s a → flat_response a ≡ response_record (length s) (read_response s)
-response_flat s (ResponseAnswer.Accepted q tail) right = accepted-response s q tail right.place ∙ ap (response_record (length s)) right.paper
-response_flat s (ResponseAnswer.Refused e) right = ap (response_record (length s)) right.paper
+pub response_flat : (s : List ℕ) (a : Seen RequestFileTransferResponse) {r : FileTransferRecord}
+    → ResponseRight s a → RecordOf (λ x r. r ≡ accepted_response x.0 x.1) (λ e r. r ≡ refused_transfer (row e)) a r → r ≡ response_record (length s) (read_response s)
+response_flat s (Ok (q, tail)) right is = is ∙ accepted-response s q tail right.place ∙ ap (response_record (length s)) right.paper
+response_flat s (Err e) right is = is ∙ ap (response_record (length s)) right.paper
 
 -- ---- writing
--- a request of a byte that is a kind, with a format that is the byte's
-pub request-known : (b : ℕ) {k : Kind} {f g : ℕ} → accepted k ≡ known b → g ≡ f → (n : List ℕ) (xh xl yh yl : ℕ)
-    → request_handed b n f xh xl yh yl ≡ write_request (request k n g (halves xh xl) (halves yh yl))
+-- a request of a byte that is a kind, with a format and sizes that are those handed over
+pub request-known : (b : ℕ) {k : Kind} {f g xh xl yh yl : ℕ} {size : SizePayload} → accepted k ≡ known b → g ≡ f → size ≡ request_sizes xh xl yh yl → (n : List ℕ)
+    → request_handed b n f xh xl yh yl ≡ write_request (request k n g (value size.file_size_uncompressed) (value size.file_size_compressed))
 unfolding request_handed
-request-known b e same n xh xl yh yl =
-    sym (ap₂ (λ (a : Answer Kind) (f : ℕ). where_known a (λ (k : Kind). write_request (request k n f (halves xh xl) (halves yh yl)))) e same)
+request-known b {xh = xh} {xl = xl} {yh = yh} {yl = yl} e same sized n =
+    rw sized (sym (ap₂ (λ (a : Answer Kind) (f : ℕ). where_known a (λ (k : Kind). write_request (request k n f (halves xh xl) (halves yh yl)))) e same))
 
 -- a request of a byte that is none
 pub request-unknown : (b : ℕ) {e : Refusal} → refused e ≡ known b → (n : List ℕ) (f xh xl yh yl : ℕ) → request_handed b n f xh xl yh yl ≡ refused e
 unfolding request_handed
 request-unknown b e n f xh xl yh yl = sym (ap (λ (a : Answer Kind). where_known a (λ (k : Kind). write_request (request k n f (halves xh xl) (halves yh yl)))) e)
 
--- a response of a byte that is a kind, with a format that is the byte's
-pub response-known : (b : ℕ) {k : Kind} {f g : ℕ} → accepted k ≡ known b → g ≡ f → (n : List ℕ) (xh xl yh yl p : ℕ)
-    → response_handed b n f xh xl yh yl p ≡ write_response (response k n g (halves xh xl) (halves yh yl) p)
+-- a response of a byte that is a kind, with a format and sizes that are those handed over
+pub response-known : (b : ℕ) {k : Kind} {f g xh xl yh yl : ℕ} {size : FileSizePayload} → accepted k ≡ known b → g ≡ f → size ≡ response_sizes xh xl yh yl → (n : List ℕ) (p : ℕ)
+    → response_handed b n f xh xl yh yl p ≡ write_response (response k n g (value size.file_size_uncompressed) (value size.file_size_compressed) p)
 unfolding response_handed
-response-known b e same n xh xl yh yl p =
-    sym (ap₂ (λ (a : Answer Kind) (f : ℕ). where_known a (λ (k : Kind). write_response (response k n f (halves xh xl) (halves yh yl) p))) e same)
+response-known b {xh = xh} {xl = xl} {yh = yh} {yl = yl} e same sized n p =
+    rw sized (sym (ap₂ (λ (a : Answer Kind) (f : ℕ). where_known a (λ (k : Kind). write_response (response k n f (halves xh xl) (halves yh yl) p))) e same))
 
 -- a response of a byte that is none
 pub response-unknown : (b : ℕ) {e : Refusal} → refused e ≡ known b → (n : List ℕ) (f xh xl yh yl p : ℕ) → response_handed b n f xh xl yh yl p ≡ refused e
@@ -108,12 +114,16 @@ unfolding response_handed
 response-unknown b e n f xh xl yh yl p = sym (ap (λ (a : Answer Kind). where_known a (λ (k : Kind). write_response (response k n f (halves xh xl) (halves yh yl) p))) e)
 
 -- ---- rewriting
--- the record of a rewriter's answer, whose tail begins within the message
-rewrite_flat : (s : List ℕ) (a : RewriteAnswer) → tail_within s a → flat_rewrite a ≡ rewritten_record (length s) (retold s a)
-rewrite_flat s (RewriteAnswer.Accepted n tail) within = rw (tail_back s tail within)
-rewrite_flat s (RewriteAnswer.Refused e) within = refl
+-- the record of a rewriter's answer
+abbrev IsRewritten : Seen ℕ → RewrittenRecord → Type 0
+IsRewritten = RecordOf (λ x r. r ≡ accepted_rewriting x.0 x.1) (λ e r. r ≡ refused_rewriting (row e))
+
+-- its tail begins within the message
+rewrite_flat : (s : List ℕ) (a : Seen ℕ) {r : RewrittenRecord} → tail_within s a → IsRewritten a r → r ≡ rewritten_record (length s) (retold s a)
+rewrite_flat s (Ok (n, tail)) within is = is ∙ rw (tail_back s tail within)
+rewrite_flat s (Err e) within is = is
 
 -- what was rewritten, as a record
-pub rewrote_flat : {rewrite : Reader (List ℕ)} {s old new : List ℕ} {a : RewriteAnswer} {r : RewrittenRecord}
-    → Rewrote rewrite s old a new → r ≡ flat_rewrite a → RewroteRecord (length s) (rewrite s) old r new
-rewrote_flat {s = s} {a = a} h f = (f ∙ rewrite_flat s a h.place ∙ ap (rewritten_record (length s)) h.answer, h.contents)
+pub rewrote_flat : {rewrite : Reader (List ℕ)} {s old new : List ℕ} {a : Seen ℕ} {r : RewrittenRecord}
+    → Rewrote rewrite s old a new → IsRewritten a r → RewroteRecord (length s) (rewrite s) old r new
+rewrote_flat {s = s} {a = a} h is = (rewrite_flat s a h.place is ∙ ap (rewritten_record (length s)) h.answer, h.contents)

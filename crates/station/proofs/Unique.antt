@@ -43,20 +43,42 @@ use Rattle.station.proofs.transfer.skr_rewrite_request.Reads as rewrite-request-
 use Rattle.station.specs.contracts.transfer.skr_rewrite_response as rewrite-response
 use Rattle.station.proofs.transfer.skr_rewrite_response.Kinds as rewrite-response-kinds
 use Rattle.station.proofs.transfer.skr_rewrite_response.Reads as rewrite-response-reads
-use Rattle.station.proofs.records.refused_write.Kinds as refused-write-kinds
-use Rattle.station.proofs.records.refused_write.Reads as refused-write-reads
-use Rattle.station.proofs.records.flat_write.Kinds as flat-write-kinds
-use Rattle.station.proofs.records.flat_write.Reads as flat-write-reads
-use Rattle.station.proofs.routine.bit.Kinds as bit-kinds
-use Rattle.station.proofs.routine.bit.Reads as bit-reads
-use Rattle.station.proofs.routine.accepted_request.Kinds as accepted-routine-request-kinds
-use Rattle.station.proofs.routine.accepted_request.Reads as accepted-routine-request-reads
-use Rattle.station.proofs.routine.accepted_response.Kinds as accepted-routine-response-kinds
-use Rattle.station.proofs.routine.accepted_response.Reads as accepted-routine-response-reads
-use Rattle.station.proofs.transfer.accepted_request.Kinds as accepted-request-kinds
-use Rattle.station.proofs.transfer.accepted_request.Reads as accepted-request-reads
-use Rattle.station.proofs.transfer.accepted_response.Kinds as accepted-response-kinds
-use Rattle.station.proofs.transfer.accepted_response.Reads as accepted-response-reads
+use Rattle.station.proofs.transfer.request_sizes.Kinds as request-sizes-kinds
+use Rattle.station.proofs.transfer.request_sizes.Reads as request-sizes-reads
+use Rattle.station.proofs.transfer.response_sizes.Kinds as response-sizes-kinds
+use Rattle.station.proofs.transfer.response_sizes.Reads as response-sizes-reads
+use Rattle.station.proofs.transfer.FileTransferRecordFromTuple2RequestFileTransferRequestUsize.from.Kinds as accepted-request-kinds
+use Rattle.station.proofs.transfer.FileTransferRecordFromTuple2RequestFileTransferRequestUsize.from.Reads as accepted-request-reads
+use Rattle.station.proofs.transfer.FileTransferRecordFromTuple2RequestFileTransferResponseUsize.from.Kinds as accepted-response-kinds
+use Rattle.station.proofs.transfer.FileTransferRecordFromTuple2RequestFileTransferResponseUsize.from.Reads as accepted-response-reads
+use Rattle.station.proofs.records.FileTransferRecordFromRefusal.from.Kinds as refused-transfer-kinds
+use Rattle.station.proofs.records.FileTransferRecordFromRefusal.from.Reads as refused-transfer-reads
+use Rattle.station.proofs.routine.RoutineRecordFromRoutineControlRequest.from.Kinds as accepted-routine-request-kinds
+use Rattle.station.proofs.routine.RoutineRecordFromRoutineControlRequest.from.Reads as accepted-routine-request-reads
+use Rattle.station.proofs.routine.RoutineRecordFromRoutineControlResponse.from.Kinds as accepted-routine-response-kinds
+use Rattle.station.proofs.routine.RoutineRecordFromRoutineControlResponse.from.Reads as accepted-routine-response-reads
+use Rattle.station.proofs.records.RoutineRecordFromRefusal.from.Kinds as refused-routine-kinds
+use Rattle.station.proofs.records.RoutineRecordFromRefusal.from.Reads as refused-routine-reads
+use Rattle.station.proofs.records.WrittenRecordFromUsize.from.Kinds as accepted-write-kinds
+use Rattle.station.proofs.records.WrittenRecordFromUsize.from.Reads as accepted-write-reads
+use Rattle.station.proofs.records.WrittenRecordFromRefusal.from.Kinds as refused-write-kinds
+use Rattle.station.proofs.records.WrittenRecordFromRefusal.from.Reads as refused-write-reads
+use Rattle.station.proofs.records.RewrittenRecordFromTuple2UsizeUsize.from.Kinds as accepted-rewriting-kinds
+use Rattle.station.proofs.records.RewrittenRecordFromTuple2UsizeUsize.from.Reads as accepted-rewriting-reads
+use Rattle.station.proofs.records.RewrittenRecordFromRefusal.from.Kinds as refused-rewriting-kinds
+use Rattle.station.proofs.records.RewrittenRecordFromRefusal.from.Reads as refused-rewriting-reads
+use Rattle.station.proofs.records.DeskRecordFromUnit.from.Kinds as passed-desk-kinds
+use Rattle.station.proofs.records.DeskRecordFromUnit.from.Reads as passed-desk-reads
+use Rattle.station.proofs.records.DeskRecordFromRefusal.from.Kinds as refused-desk-kinds
+use Rattle.station.proofs.records.DeskRecordFromRefusal.from.Reads as refused-desk-reads
+use Rattle.station.proofs.trouble.TroubleCodeRecordFromDtcRecord.from.Kinds as accepted-code-kinds
+use Rattle.station.proofs.trouble.TroubleCodeRecordFromDtcRecord.from.Reads as accepted-code-reads
+use Rattle.station.proofs.records.TroubleCodeRecordFromRefusal.from.Kinds as refused-code-kinds
+use Rattle.station.proofs.records.TroubleCodeRecordFromRefusal.from.Reads as refused-code-reads
+use Rattle.station.proofs.trouble.NextTroubleCodeRecordFromOptionTuple2DtcRecordUsize.from.Kinds as accepted-next-kinds
+use Rattle.station.proofs.trouble.NextTroubleCodeRecordFromOptionTuple2DtcRecordUsize.from.Reads as accepted-next-reads
+use Rattle.station.proofs.records.NextTroubleCodeRecordFromRefusal.from.Kinds as refused-next-kinds
+use Rattle.station.proofs.records.NextTroubleCodeRecordFromRefusal.from.Reads as refused-next-reads
 
 -- ---- readers and questions
 pub read_request_determined : Determined 1 read-request-kinds.ps read-request-kinds.r read-request-reads.Post
@@ -110,15 +132,21 @@ pub rewrite_response_determined : (κs : Lfts 2) (a : ArgsD rewrite-response.sig
     → rewrite-response-reads.Post κs a r x → rewrite-response-reads.Post κs a s y → (r ≡ s) × (x.1.0.now ≡ y.1.0.now)
 rewrite_response_determined κs a x y r s p q = (p.0 ∙ sym q.0, p.1 ∙ sym q.1)
 
--- ---- what the doors of other crates share with these
-pub refused_write_determined : Determined 0 refused-write-kinds.ps refused-write-kinds.r refused-write-reads.Post
-refused_write_determined κs a x y r₁ r₂ p q = p ∙ sym q
+-- ---- the conversions that the doors of this crate and of others share; what `flat` hands out of them is settled with them (Flats.flat_determined)
+pub request_sizes_determined : Determined 0 request-sizes-kinds.ps request-sizes-kinds.r request-sizes-reads.Post
+request_sizes_determined κs a x y r₁ r₂ p q = p ∙ sym q
 
-pub flat_write_determined : Determined 0 flat-write-kinds.ps flat-write-kinds.r flat-write-reads.Post
-flat_write_determined κs a x y r₁ r₂ p q = p ∙ sym q
+pub response_sizes_determined : Determined 0 response-sizes-kinds.ps response-sizes-kinds.r response-sizes-reads.Post
+response_sizes_determined κs a x y r₁ r₂ p q = p ∙ sym q
 
-pub bit_determined : Determined 0 bit-kinds.ps bit-kinds.r bit-reads.Post
-bit_determined κs a x y r₁ r₂ p q = p ∙ sym q
+pub accepted_request_determined : Determined 0 accepted-request-kinds.ps accepted-request-kinds.r accepted-request-reads.Post
+accepted_request_determined κs a x y r₁ r₂ p q = p ∙ sym q
+
+pub accepted_response_determined : Determined 0 accepted-response-kinds.ps accepted-response-kinds.r accepted-response-reads.Post
+accepted_response_determined κs a x y r₁ r₂ p q = p ∙ sym q
+
+pub refused_transfer_determined : Determined 0 refused-transfer-kinds.ps refused-transfer-kinds.r refused-transfer-reads.Post
+refused_transfer_determined κs a x y r₁ r₂ p q = p ∙ sym q
 
 pub accepted_routine_request_determined : Determined 0 accepted-routine-request-kinds.ps accepted-routine-request-kinds.r accepted-routine-request-reads.Post
 accepted_routine_request_determined κs a x y r₁ r₂ p q = p ∙ sym q
@@ -126,8 +154,35 @@ accepted_routine_request_determined κs a x y r₁ r₂ p q = p ∙ sym q
 pub accepted_routine_response_determined : Determined 0 accepted-routine-response-kinds.ps accepted-routine-response-kinds.r accepted-routine-response-reads.Post
 accepted_routine_response_determined κs a x y r₁ r₂ p q = p ∙ sym q
 
-pub accepted_request_determined : Determined 0 accepted-request-kinds.ps accepted-request-kinds.r accepted-request-reads.Post
-accepted_request_determined κs a x y r₁ r₂ p q = p ∙ sym q
+pub refused_routine_determined : Determined 0 refused-routine-kinds.ps refused-routine-kinds.r refused-routine-reads.Post
+refused_routine_determined κs a x y r₁ r₂ p q = p ∙ sym q
 
-pub accepted_response_determined : Determined 0 accepted-response-kinds.ps accepted-response-kinds.r accepted-response-reads.Post
-accepted_response_determined κs a x y r₁ r₂ p q = p ∙ sym q
+pub accepted_write_determined : Determined 0 accepted-write-kinds.ps accepted-write-kinds.r accepted-write-reads.Post
+accepted_write_determined κs a x y r₁ r₂ p q = p ∙ sym q
+
+pub refused_write_determined : Determined 0 refused-write-kinds.ps refused-write-kinds.r refused-write-reads.Post
+refused_write_determined κs a x y r₁ r₂ p q = p ∙ sym q
+
+pub accepted_rewriting_determined : Determined 0 accepted-rewriting-kinds.ps accepted-rewriting-kinds.r accepted-rewriting-reads.Post
+accepted_rewriting_determined κs a x y r₁ r₂ p q = p ∙ sym q
+
+pub refused_rewriting_determined : Determined 0 refused-rewriting-kinds.ps refused-rewriting-kinds.r refused-rewriting-reads.Post
+refused_rewriting_determined κs a x y r₁ r₂ p q = p ∙ sym q
+
+pub passed_desk_determined : Determined 0 passed-desk-kinds.ps passed-desk-kinds.r passed-desk-reads.Post
+passed_desk_determined κs a x y r₁ r₂ p q = p ∙ sym q
+
+pub refused_desk_determined : Determined 0 refused-desk-kinds.ps refused-desk-kinds.r refused-desk-reads.Post
+refused_desk_determined κs a x y r₁ r₂ p q = p ∙ sym q
+
+pub accepted_code_determined : Determined 0 accepted-code-kinds.ps accepted-code-kinds.r accepted-code-reads.Post
+accepted_code_determined κs a x y r₁ r₂ p q = p ∙ sym q
+
+pub refused_code_determined : Determined 0 refused-code-kinds.ps refused-code-kinds.r refused-code-reads.Post
+refused_code_determined κs a x y r₁ r₂ p q = p ∙ sym q
+
+pub accepted_next_determined : Determined 0 accepted-next-kinds.ps accepted-next-kinds.r accepted-next-reads.Post
+accepted_next_determined κs a x y r₁ r₂ p q = p ∙ sym q
+
+pub refused_next_determined : Determined 0 refused-next-kinds.ps refused-next-kinds.r refused-next-reads.Post
+refused_next_determined κs a x y r₁ r₂ p q = p ∙ sym q

@@ -1,33 +1,30 @@
--- The flat form of each answer of the code, field by field: what the functions that flatten hand out.
-use Rattle.std.specs.Prelude.{ℕ, Bool, false}
+-- The record of each answer of the code, field by field.
+use Rattle.std.specs.Prelude.{ℕ, Bool, false, Option, Some, None, Result, Ok, Err}
 use Rattle.paper.specs.Choice.{pick}
 use Rattle.paper.specs.Kind.{mode_of}
 use Rattle.paper.specs.RoutineControl.{byte_of}
-use Rattle.wire.specs.Refusals.{row}
 use Rattle.wire.specs.declared.place.Place.{Place}
 use Rattle.wire.specs.declared.size.Size.{Size}
 use Rattle.file_operation.specs.Mode.{kind_of}
 use Rattle.file_operation.specs.declared.mode.FileOperationMode.{FileOperationMode}
 use Rattle.file_operation.specs.declared.payload.DataFormatIdentifier.{DataFormatIdentifier}
-use Rattle.file_operation.specs.declared.rewrite.RewriteAnswer.{RewriteAnswer}
 use Rattle.request_file_transfer.specs.declared.read.RequestFileTransferRequest.{RequestFileTransferRequest}
-use Rattle.request_file_transfer.specs.declared.read.RequestAnswer.{RequestAnswer}
 use Rattle.request_file_transfer_response.specs.declared.read.RequestFileTransferResponse.{RequestFileTransferResponse}
-use Rattle.request_file_transfer_response.specs.declared.read.ResponseAnswer.{ResponseAnswer}
 use Rattle.routine_control.specs.SubFunction.{sub_of}
 use Rattle.routine_control.specs.declared.sub_function.RoutineControlSubFunction.{RoutineControlSubFunction}
 use Rattle.routine_control.specs.declared.request.RoutineControlRequest.{RoutineControlRequest}
-use Rattle.routine_control.specs.declared.request.RoutineControlRequestAnswer.{RoutineControlRequestAnswer}
 use Rattle.routine_control.specs.declared.response.RoutineControlResponse.{RoutineControlResponse}
-use Rattle.routine_control.specs.declared.response.RoutineControlResponseAnswer.{RoutineControlResponseAnswer}
 use Rattle.dtc.specs.Status.{code_of}
 use Rattle.dtc.specs.declared.status.DtcRecord.{DtcRecord}
-use Rattle.dtc.specs.declared.status.DtcRecordNext.{DtcRecordNext}
-use Rattle.station.specs.Records.{refused_transfer, refused_routine, refused_rewriting, refused_next}
 use Rattle.station.specs.declared.records.FileTransferRecord.{FileTransferRecord}
 use Rattle.station.specs.declared.records.RoutineRecord.{RoutineRecord}
 use Rattle.station.specs.declared.records.RewrittenRecord.{RewrittenRecord}
 use Rattle.station.specs.declared.records.NextTroubleCodeRecord.{NextTroubleCodeRecord}
+
+-- r is the record of an answer: of what was accepted, or of the refusal
+abbrev pub RecordOf : {A E R : Type 0} → (A → R → Type 0) → (E → R → Type 0) → Result A E → R → Type 0
+RecordOf accepted refused (Ok a) r = accepted a r
+RecordOf accepted refused (Err e) r = refused e r
 
 -- a message that was accepted; a request has no position
 abbrev pub accepted_message : FileOperationMode → Place → DataFormatIdentifier → (uncompressed compressed : Size) → (position tail : ℕ) → FileTransferRecord
@@ -50,18 +47,10 @@ accepted_message mode place format uncompressed compressed position tail = recor
 abbrev pub accepted_request : RequestFileTransferRequest → ℕ → FileTransferRecord
 accepted_request q tail = accepted_message q.kind q.file_path_and_name q.data_format_identifier q.size.file_size_uncompressed q.size.file_size_compressed 0 tail
 
-abbrev pub flat_request : RequestAnswer → FileTransferRecord
-flat_request (RequestAnswer.Accepted q tail) = accepted_request q tail
-flat_request (RequestAnswer.Refused e) = refused_transfer (row e)
-
 abbrev pub accepted_response : RequestFileTransferResponse → ℕ → FileTransferRecord
 accepted_response q tail =
     accepted_message q.kind q.max_number_of_block_length q.data_format_identifier q.file_size.file_size_uncompressed q.file_size.file_size_compressed
     q.position.file_position tail
-
-abbrev pub flat_response : ResponseAnswer → FileTransferRecord
-flat_response (ResponseAnswer.Accepted q tail) = accepted_response q tail
-flat_response (ResponseAnswer.Refused e) = refused_transfer (row e)
 
 -- 1 for true
 abbrev pub bit_of : Bool → ℕ
@@ -83,25 +72,16 @@ accepted_routine suppress f identifier place = record {
 abbrev pub accepted_routine_request : RoutineControlRequest → RoutineRecord
 accepted_routine_request q = accepted_routine q.suppress_positive_response q.sub_function q.routine_id q.option_record
 
-abbrev pub flat_routine_request : RoutineControlRequestAnswer → RoutineRecord
-flat_routine_request (RoutineControlRequestAnswer.Accepted q) = accepted_routine_request q
-flat_routine_request (RoutineControlRequestAnswer.Refused e) = refused_routine (row e)
-
 abbrev pub accepted_routine_response : RoutineControlResponse → RoutineRecord
 accepted_routine_response q = accepted_routine false q.sub_function q.routine_id q.status_record
 
-abbrev pub flat_routine_response : RoutineControlResponseAnswer → RoutineRecord
-flat_routine_response (RoutineControlResponseAnswer.Accepted q) = accepted_routine_response q
-flat_routine_response (RoutineControlResponseAnswer.Refused e) = refused_routine (row e)
-
-abbrev pub flat_rewrite : RewriteAnswer → RewrittenRecord
-flat_rewrite (RewriteAnswer.Accepted written tail) = record { number = 0; first = 0; second = 0; written = written; tail = tail }
-flat_rewrite (RewriteAnswer.Refused e) = refused_rewriting (row e)
+abbrev pub accepted_rewriting : (written tail : ℕ) → RewrittenRecord
+accepted_rewriting written tail = record { number = 0; first = 0; second = 0; written = written; tail = tail }
 
 abbrev pub found_next : DtcRecord → ℕ → NextTroubleCodeRecord
 found_next c tail = record { number = 0; first = 0; second = 0; found = 1; high = (code_of c).high; middle = (code_of c).middle; low = (code_of c).low; tail = tail }
 
-abbrev pub flat_next : DtcRecordNext → NextTroubleCodeRecord
-flat_next DtcRecordNext.Nothing = record { number = 0; first = 0; second = 0; found = 0; high = 0; middle = 0; low = 0; tail = 0 }
-flat_next (DtcRecordNext.Record c tail) = found_next c tail
-flat_next (DtcRecordNext.Refused e) = refused_next (row e)
+-- where the list has ended there is none
+abbrev pub accepted_next : Option (DtcRecord × ℕ) → NextTroubleCodeRecord
+accepted_next None = record { number = 0; first = 0; second = 0; found = 0; high = 0; middle = 0; low = 0; tail = 0 }
+accepted_next (Some (c, tail)) = found_next c tail

@@ -5,6 +5,8 @@ use Rattle.paper.specs.Kind.{Kind, known}
 use Rattle.paper.specs.Request.{request, write_request}
 use Rattle.paper.specs.Response.{response, write_response}
 use Rattle.paper.specs.RoutineControl.{SubFunction, known_sub, write_routine_request, write_routine_response}
+use Rattle.file_operation.specs.declared.payload.SizePayload.{SizePayload}
+use Rattle.file_operation.specs.declared.payload.FileSizePayload.{FileSizePayload}
 use Rattle.routine_control.specs.Request.{routine_request}
 use Rattle.routine_control.specs.Response.{routine_response}
 
@@ -17,7 +19,13 @@ where_known (refused e) message = refused e
 abbrev pub halves : ℕ → ℕ → ℕ
 halves high low = high * 2 ^ 64 + low
 
--- each size is handed over in two halves
+-- ---- each size is handed over in two halves
+abbrev pub request_sizes : (uncompressedHigh uncompressedLow compressedHigh compressedLow : ℕ) → SizePayload
+request_sizes xh xl yh yl = record { file_size_uncompressed = record { high = xh; low = xl }; file_size_compressed = record { high = yh; low = yl } }
+
+abbrev pub response_sizes : (uncompressedHigh uncompressedLow compressedHigh compressedLow : ℕ) → FileSizePayload
+response_sizes xh xl yh yl = record { file_size_uncompressed = record { high = xh; low = xl }; file_size_compressed = record { high = yh; low = yl } }
+
 unfoldable pub request_handed : (kind : ℕ) (name : List ℕ) (format uncompressedHigh uncompressedLow compressedHigh compressedLow : ℕ) → Answer (List ℕ)
 request_handed kind name f xh xl yh yl = where_known (known kind) (λ (k : Kind). write_request (request k name f (halves xh xl) (halves yh yl)))
 

@@ -1,5 +1,5 @@
 -- What each record that crosses a door says, as the flat form of the paper's answer: number, first and second of a refusal, else 0, 0, 0 and the fields.
-use Rattle.std.specs.Prelude.{◌≡◌, ℕ, ◌-◌, ◌/◌, ◌%◌, ◌^◌, Bool, List, length}
+use Rattle.std.specs.Prelude.{◌≡◌, ℕ, ◌-◌, ◌/◌, ◌%◌, ◌^◌, List, length}
 use Rattle.paper.specs.Choice.{pick}
 use Rattle.paper.specs.Answer.{Refusal, Answer, accepted, refused, Read, ◌leaving◌, written}
 use Rattle.paper.specs.Kind.{mode_of}

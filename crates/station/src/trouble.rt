@@ -1,16 +1,15 @@
 // Names and trouble codes.
 ghost use Rattle.std.specs.Prelude.{◌≡◌, length};
+ghost use Rattle.paper.specs.Answer.{accepted};
 ghost use Rattle.paper.specs.Utf8.{Longest};
 ghost use Rattle.paper.specs.TroubleCode.{from_number, next_trouble_code};
-ghost use Rattle.wire.specs.Refusals.{row};
-ghost use Rattle.dtc.specs.Status.{number_said};
-ghost use Rattle.station.specs.Records.{code_record, next_record, refused_next};
-ghost use Rattle.station.specs.Flat.{flat_next, found_next};
+ghost use Rattle.dtc.specs.Status.{code_of};
+ghost use Rattle.station.specs.Records.{code_record, next_record};
+ghost use Rattle.station.specs.Flat.{accepted_next};
 
-use crate::records::{NextTroubleCodeRecord, TroubleCodeRecord};
-use dtc::status::{DtcRecord, DtcRecordAnswer, DtcRecordNext};
+use crate::records::{NextTroubleCodeRecord, TroubleCodeRecord, flat};
+use dtc::status::DtcRecord;
 use utf8::valid_up_to;
-use wire::refusal::Refusal;
 
 // The length of the longest beginning of the name that is UTF-8.
 #[unsafe(no_mangle)]
@@ -20,26 +19,17 @@ pub extern "C" fn skr_valid_up_to(name: &[u8]) -> u64
     valid_up_to(name) as u64
 }
 
-fn flat_code(a: DtcRecordAnswer) -> TroubleCodeRecord
-    ensures { result ≡ code_record (number_said a) }
-{
-    match a {
-        DtcRecordAnswer::Accepted(c) => TroubleCodeRecord {
-            number: 0,
-            first: 0,
-            second: 0,
-            high: c.high_byte() as u64,
-            middle: c.middle_byte() as u64,
-            low: c.low_byte() as u64,
-        },
-        DtcRecordAnswer::Refused(e) => TroubleCodeRecord {
-            number: e.number() as u64,
-            first: e.first() as u64,
-            second: e.second() as u64,
-            high: 0,
-            middle: 0,
-            low: 0,
-        },
+// The record of a code.
+impl From<DtcRecord> for TroubleCodeRecord {
+    ghost from_gives = { λ code r. r ≡ code_record (accepted (code_of code)) };
+
+    fn from(code: DtcRecord) -> TroubleCodeRecord {
+        TroubleCodeRecord {
+            high: u64::from(code.high_byte()),
+            middle: u64::from(code.middle_byte()),
+            low: u64::from(code.low_byte()),
+            ..TroubleCodeRecord::default()
+        }
     }
 }
 
@@ -47,55 +37,25 @@ fn flat_code(a: DtcRecordAnswer) -> TroubleCodeRecord
 pub extern "C" fn skr_dtc_from_number(number: u32) -> TroubleCodeRecord
     ensures { result ≡ code_record (from_number number) }
 {
-    flat_code(DtcRecord::from_u32(number))
+    flat(DtcRecord::try_from(number))
 }
 
-fn found_next(c: DtcRecord, tail: usize) -> NextTroubleCodeRecord
-    ensures { result ≡ found_next c tail }
-{
-    NextTroubleCodeRecord {
-        number: 0,
-        first: 0,
-        second: 0,
-        found: 1,
-        high: c.high_byte() as u64,
-        middle: c.middle_byte() as u64,
-        low: c.low_byte() as u64,
-        tail: tail as u64,
-    }
-}
+// The record of the next code of a list and of where the list goes on; at the end of the list there is none.
+impl From<Option<(DtcRecord, usize)>> for NextTroubleCodeRecord {
+    ghost from_gives = { λ next r. r ≡ accepted_next next };
 
-fn refused_next(e: Refusal) -> NextTroubleCodeRecord
-    ensures { result ≡ refused_next (row e) }
-{
-    NextTroubleCodeRecord {
-        number: e.number() as u64,
-        first: e.first() as u64,
-        second: e.second() as u64,
-        found: 0,
-        high: 0,
-        middle: 0,
-        low: 0,
-        tail: 0,
-    }
-}
-
-fn flat_next(a: DtcRecordNext) -> NextTroubleCodeRecord
-    ensures { result ≡ flat_next a }
-{
-    match a {
-        DtcRecordNext::Nothing => NextTroubleCodeRecord {
-            number: 0,
-            first: 0,
-            second: 0,
-            found: 0,
-            high: 0,
-            middle: 0,
-            low: 0,
-            tail: 0,
-        },
-        DtcRecordNext::Record(c, tail) => found_next(c, tail),
-        DtcRecordNext::Refused(e) => refused_next(e),
+    fn from(next: Option<(DtcRecord, usize)>) -> NextTroubleCodeRecord {
+        match next {
+            Some((code, tail)) => NextTroubleCodeRecord {
+                found: 1,
+                high: u64::from(code.high_byte()),
+                middle: u64::from(code.middle_byte()),
+                low: u64::from(code.low_byte()),
+                tail: tail as u64,
+                ..NextTroubleCodeRecord::default()
+            },
+            None => NextTroubleCodeRecord::default(),
+        }
     }
 }
 
@@ -104,5 +64,5 @@ fn flat_next(a: DtcRecordNext) -> NextTroubleCodeRecord
 pub extern "C" fn skr_dtc_next(buffer: &[u8]) -> NextTroubleCodeRecord
     ensures { result ≡ next_record (length buffer.now) (next_trouble_code buffer.now) }
 {
-    flat_next(DtcRecord::decode_next(buffer, 0))
+    flat(DtcRecord::decode_next(buffer, 0))
 }

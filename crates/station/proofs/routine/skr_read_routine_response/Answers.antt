@@ -1,7 +1,6 @@
--- `station::routine::skr_read_routine_response` meets its contract: the answer that was read, in its flat form, is the paper's.
-use mathlib.Core.Path.{◌∙◌}
+-- `station::routine::skr_read_routine_response` meets its contract: the record of what was read is that of the paper's answer.
 use Rattle.station.proofs.Routines.{routine_response_flat}
 use Rattle.station.proofs.routine.skr_read_routine_response.Goals as goal
 
 pub returns : goal.returns
-returns c = c.flat_response.ensures ∙ routine_response_flat c.args.message.now c.read_routine_response.result c.read_routine_response.ensures
+returns c = routine_response_flat c.args.message.now c.read_routine_response.result c.read_routine_response.ensures c.flat.ensures

@@ -1,19 +1,16 @@
--- `station::routine::skr_write_routine_request` meets its contract: a byte that is no sub-function is refused with nothing written, and of one that is the message is written.
-use mathlib.Core.Path.{refl, sym, ap, ◌∙◌}
-use Rattle.routine_control.specs.SubFunction.{sub_said, sub_refusal}
-use Rattle.routine_control.specs.declared.sub_function.SubFunctionAnswer.{SubFunctionAnswer}
-use Rattle.wire.proofs.Left.{left-answer}
+-- `station::routine::skr_write_routine_request` meets its contract: of a byte that is a sub-function the message is written, and one that is none is refused with nothing written.
+use mathlib.Core.Path.{sym, ap, ◌∙◌}
+use Rattle.routine_control.specs.SubFunction.{sub_said}
 use Rattle.station.proofs.Written.{wrote_known, not_known}
 use Rattle.station.proofs.Routines.{request-handed}
 use Rattle.station.proofs.routine.skr_write_routine_request.Goals as goal
 
-pub returns-in_default : goal.returns-in_default
-returns-in_default c =
+pub returns-in-Ok : goal.returns-in-Ok
+returns-in-Ok c =
     let a = c.args in
-    let e = left-answer sub_said sub_refusal SubFunctionAnswer.Refused (λ e. (refl, refl)) c.from_byte-f.ensures c.in_default.is c.refusal.ensures in
-    not_known (request-handed a.suppress a.sub_function a.identifier a.«record».now e) c.refused_write.ensures
+    wrote_known (request-handed a.suppress a.sub_function a.identifier a.«record».now (sym (ap sub_said c.in-Ok.is) ∙ c.try_from.ensures)) c.write_routine_request.ensures c.flat.ensures
 
-pub returns : goal.returns
-returns c =
+pub returns-in-Err : goal.returns-in-Err
+returns-in-Err c =
     let a = c.args in
-    wrote_known (request-handed a.suppress a.sub_function a.identifier a.«record».now (sym (ap sub_said c.in-Accepted.is) ∙ c.from_byte-f.ensures)) c.write_routine_request.ensures c.flat_write.ensures
+    not_known (request-handed a.suppress a.sub_function a.identifier a.«record».now (sym (ap sub_said c.in-Err.is) ∙ c.try_from.ensures)) c.into.ensures

@@ -1,7 +1,8 @@
--- `station::transfer::skr_desk_check` meets its contract: the flat form of what the desk says.
-use mathlib.Core.Path.{ap, ◌∙◌}
+-- `station::transfer::skr_desk_check` meets its contract: the record of what the desk says is that of the paper's answer.
+use Rattle.desk_check.specs.Desk.{desk_said}
 use Rattle.station.specs.Records.{desk_record}
+use Rattle.station.proofs.Flats.{flat_said}
 use Rattle.station.proofs.transfer.skr_desk_check.Goals as goal
 
 pub returns : goal.returns
-returns c = c.flat_desk.ensures ∙ ap desk_record c.desk_check.ensures
+returns c = flat_said desk_record desk_said c.desk_check.result c.desk_check.ensures c.flat.ensures

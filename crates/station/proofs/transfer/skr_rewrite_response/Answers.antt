@@ -3,4 +3,4 @@ use Rattle.station.proofs.Transfers.{rewrote_flat}
 use Rattle.station.proofs.transfer.skr_rewrite_response.Goals as goal
 
 pub returns : goal.returns
-returns c = rewrote_flat c.rewrite_response.ensures c.flat_rewrite.ensures
+returns c = rewrote_flat c.rewrite_response.ensures c.flat.ensures

@@ -1,7 +1,8 @@
--- `station::trouble::skr_dtc_from_number` meets its contract: the answer about the number, in its flat form, is the paper's.
-use mathlib.Core.Path.{ap, ◌∙◌}
+-- `station::trouble::skr_dtc_from_number` meets its contract: the record of the answer about the number is that of the paper's.
+use Rattle.dtc.specs.Status.{number_said}
 use Rattle.station.specs.Records.{code_record}
+use Rattle.station.proofs.Flats.{flat_said}
 use Rattle.station.proofs.trouble.skr_dtc_from_number.Goals as goal
 
 pub returns : goal.returns
-returns c = c.flat_code.ensures ∙ ap code_record c.from_u32.ensures
+returns c = flat_said code_record number_said c.try_from.result c.try_from.ensures c.flat.ensures
