@@ -1,9 +1,9 @@
-// The records that cross the doors. Each begins with the refusal's number (0 for accepted) and the two values that it carries, and ends with `tail`, where the part ends; after a refusal every
-// other field is 0.
+// The records that cross the doors: numbers in a fixed layout, since C reads them. Each begins with the refusal's number (0 for accepted) and the two values that it carries, and ends with
+// `tail`, where the part ends; after a refusal every other field is 0.
 
 // A name or a block length that was read: `start` and `len` are its place, after the count.
 #[repr(C)]
-#[derive(Clone, Copy)]
+#[derive(Clone, Copy, Default)]
 pub struct PartRecord {
     pub number: u64,
     pub first: u64,
@@ -15,7 +15,7 @@ pub struct PartRecord {
 
 // Sizes that were read, each in two halves; one that stands alone is the uncompressed.
 #[repr(C)]
-#[derive(Clone, Copy)]
+#[derive(Clone, Copy, Default)]
 pub struct SizesRecord {
     pub number: u64,
     pub first: u64,
@@ -28,7 +28,7 @@ pub struct SizesRecord {
 }
 
 #[repr(C)]
-#[derive(Clone, Copy)]
+#[derive(Clone, Copy, Default)]
 pub struct PositionRecord {
     pub number: u64,
     pub first: u64,

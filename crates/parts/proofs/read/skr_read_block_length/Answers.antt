@@ -1,7 +1,6 @@
--- `parts::read::skr_read_block_length` meets its contract: what was read is right, so its flat form is that of the paper's answer.
-use mathlib.Core.Path.{◌∙◌}
+-- `parts::read::skr_read_block_length` meets its contract: what was read is right, so its record is that of the paper's answer.
 use Rattle.parts.proofs.Flats.{part_flat}
 use Rattle.parts.proofs.read.skr_read_block_length.Goals as goal
 
 pub returns : goal.returns
-returns c = c.flat_part.ensures ∙ part_flat 1 _ c.counted_at.result c.counted_at.ensures
+returns c = part_flat 1 _ c.counted_at.result c.counted_at.ensures c.flat.ensures

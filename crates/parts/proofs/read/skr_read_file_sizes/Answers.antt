@@ -1,7 +1,6 @@
--- `parts::read::skr_read_file_sizes` meets its contract: what was read is right, so its flat form is that of the paper's answer.
-use mathlib.Core.Path.{◌∙◌}
+-- `parts::read::skr_read_file_sizes` meets its contract: what was read is right, so its record is that of the paper's answer.
 use Rattle.parts.proofs.Flats.{two_sizes_flat}
 use Rattle.parts.proofs.read.skr_read_file_sizes.Goals as goal
 
 pub returns : goal.returns
-returns c = c.flat_two_sizes.ensures ∙ two_sizes_flat 2 _ c.two_sizes_at.result c.two_sizes_at.ensures
+returns c = two_sizes_flat 2 _ c.two_sizes_at.result c.two_sizes_at.ensures c.flat.ensures

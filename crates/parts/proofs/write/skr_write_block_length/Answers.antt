@@ -4,4 +4,4 @@ use Rattle.parts.proofs.Handing.{block-length-handed}
 use Rattle.parts.proofs.write.skr_write_block_length.Goals as goal
 
 pub returns : goal.returns
-returns c = wrote_known (block-length-handed _) c.put_counted.ensures c.flat_write.ensures
+returns c = wrote_known (block-length-handed _) c.put_counted.ensures c.flat.ensures

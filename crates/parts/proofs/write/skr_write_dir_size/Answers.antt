@@ -4,4 +4,4 @@ use Rattle.station.proofs.Written.{wrote_known}
 use Rattle.parts.proofs.write.skr_write_dir_size.Goals as goal
 
 pub returns : goal.returns
-returns c = wrote_known refl c.put_one_size.ensures c.flat_write.ensures
+returns c = wrote_known refl c.put_one_size.ensures c.flat.ensures

@@ -4,4 +4,4 @@ use Rattle.station.proofs.Written.{wrote_known}
 use Rattle.parts.proofs.write.skr_write_position.Goals as goal
 
 pub returns : goal.returns
-returns c = wrote_known refl c.put_eight.ensures c.flat_write.ensures
+returns c = wrote_known refl c.put_eight.ensures c.flat.ensures
