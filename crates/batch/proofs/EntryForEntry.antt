@@ -12,9 +12,9 @@ use Rattle.paper.specs.Request.{read_request}
 use Rattle.paper.specs.Tally.{sum}
 use Rattle.paper.specs.Batch.{messages, number_in, number_of, batch_numbers, read_batch, message_at, EntryForEntry}
 use Rattle.paper.proofs.Batch.{PaperBatch, entry_for_entry}
-use Rattle.wire.specs.Reading.{Seen, found, stopped, said}
+use Rattle.std.specs.Prelude.{Ok, Err}
+use Rattle.wire.specs.Reading.{Seen, said}
 use Rattle.wire.specs.declared.refusal.Refusal.{Refusal}
-use Rattle.wire.specs.declared.write.WriteAnswer.{WriteAnswer}
 use Rattle.file_operation.proofs.Calls.{slice, buffer as lent}
 use Rattle.request_file_transfer.specs.Reading.{meant}
 use Rattle.request_file_transfer.specs.declared.read.RequestFileTransferRequest.{RequestFileTransferRequest}
@@ -38,8 +38,8 @@ calls_entry_for_entry = entry_for_entry ReadBatchCall as_on_paper
 
 -- the number of what a call of the reader answered is the paper's number of its message
 number-seen : (s : List ℕ) (x : Seen RequestFileTransferRequest) → number_in (said (meant s) s x) ≡ number_seen x
-number-seen s (found q tail) = refl
-number-seen s (stopped e) = refl
+number-seen s (Ok (q, tail)) = refl
+number-seen s (Err e) = refl
 
 pub calls_one_by_one : OneByOne RequestFileTransferRequest ReadRequestCall ReadBatchCall
 calls_one_by_one = record {
@@ -61,7 +61,7 @@ example = record {
   lifetimes = ([], ([], ([], tt)));
   args = (slice buffer, (slice lengths, (lent (99 ∷ 99 ∷ 99 ∷ []), tt)));
   exit = (slice buffer, (slice lengths, (lent (0 ∷ 1 ∷ 99 ∷ []), tt)));
-  result = WriteAnswer.Accepted 2;
+  result = Ok 2;
   buffer_lent = refl;
   lengths_lent = refl;
   before = refl;
@@ -70,6 +70,6 @@ example = record {
   met = record { answer = refl; contents = refl };
 }
 
-pub example_alone : ReadRequestCall (message_at buffer lengths 1) (stopped (Refusal.TooShort 1 0))
+pub example_alone : ReadRequestCall (message_at buffer lengths 1) (Err (Refusal.TooShort 1 0))
 unfolding ◌>>=◌ part byte read_request sum
-example_alone = (requests-keep.reads (message_at buffer lengths 1) (stopped (Refusal.TooShort 1 0))).1 (record { paper = refl; place = tt })
+example_alone = (requests-keep.reads (message_at buffer lengths 1) (Err (Refusal.TooShort 1 0))).1 (record { paper = refl; place = tt })

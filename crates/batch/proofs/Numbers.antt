@@ -9,17 +9,16 @@ use native.Mathlib.Omega.{arith}
 use lib.ListN.{length, get_or, get_or-eq_default}
 use lib.Dec.{leb}
 use borrow.Author.Tests.{leb-true}
-use Rattle.paper.specs.Answer.{Refusal}
 use Rattle.paper.specs.Batch.{number_in, number_of}
 use Rattle.paper.proofs.Choice.{cut}
 use Rattle.wire.specs.Refusals.{row}
 use Rattle.wire.specs.Reading.{Seen, said}
 use Rattle.wire.specs.declared.refusal.Refusal.{Refusal as Why}
 use Rattle.wire.proofs.Refusals.{refusal_back, refusal-back}
-use Rattle.request_file_transfer.specs.Reading.{meant, SeenRight}
+use Rattle.request_file_transfer.specs.Reading.{meant, RequestRight}
 use Rattle.request_file_transfer.specs.declared.read.RequestFileTransferRequest.{RequestFileTransferRequest}
 
-pub number_read_lem : (s : List ℕ) {x : Seen RequestFileTransferRequest} → SeenRight s x → number_in (said (meant s) s x) ≡ number_of s
+pub number_read_lem : (s : List ℕ) {x : Seen RequestFileTransferRequest} → RequestRight s x → number_in (said (meant s) s x) ≡ number_of s
 unfolding number_of
 number_read_lem s h = ap number_in h.paper
 

@@ -6,16 +6,16 @@ use mathlib.Core.List.{List, [], ◌∷◌, ◌++◌}
 use native.Mathlib.Nat.{not-suc-le-zero, le_of_suc-le-suc}
 use native.Mathlib.Numerals.{add-one}
 use native.Mathlib.Omega.{arith}
+use Rattle.std.specs.Prelude.{Ok, Err}
 use lib.ListN.{length, get_or, take, drop, set}
 use lib.Seq.{length-take-le, take_all, take-suc}
 use borrow.Author.Tests.{lt-leb, le-leb, eq-eqb, ne_eqb}
-use Rattle.paper.specs.Answer.{accepted, refused, cut, too_many}
+use Rattle.paper.specs.Answer.{accepted}
 use Rattle.paper.specs.Tally.{sum}
-use Rattle.paper.specs.Batch.{number_of, batch_numbers, message_at}
+use Rattle.paper.specs.Batch.{number_of, batch_numbers}
 use Rattle.paper.proofs.Batch.{numbers, length_numbers, number_at}
 use Rattle.wire.specs.Writing.{Filled, Wrote}
 use Rattle.wire.specs.declared.refusal.Refusal.{Refusal}
-use Rattle.wire.specs.declared.write.WriteAnswer.{WriteAnswer}
 use Rattle.wire.proofs.Over.{over_length, filled_none, filled_set, filled_as}
 use Rattle.wire.proofs.Writes.{refuses, writes, malformed, passed}
 
@@ -38,6 +38,10 @@ unfolding sum
 within [] k h = absurd (not-suc-le-zero h)
 within (x ∷ ls) zero h = omega arith
 within (x ∷ ls) (suc k) h = omega (arith, within ls k (le_of_suc-le-suc h))
+
+-- and so within the buffer that they fill
+pub ends_within : (ls : List ℕ) (k : ℕ) {at t n : ℕ} → k < length ls → at ≡ sum (take k ls) → t ≡ sum ls → t ≡ n → at + get_or ls k 0 ≤ n
+ends_within ls k h e f g = omega (arith, within ls k h)
 
 module _ (b ls old : List ℕ) where
   -- ---- the list, with the numbers of the first k messages over its front
@@ -65,11 +69,11 @@ module _ (b ls old : List ℕ) where
       ap length (f.given_room fits) ∙ over_length _ old fits
 
   -- ---- the answers
-  pub too_many_lem : 4096 < length ls → Wrote (batch_numbers b ls) old (WriteAnswer.Refused Refusal.TooMany) old
+  pub too_many_lem : 4096 < length ls → Wrote (batch_numbers b ls) old (Err Refusal.TooMany) old
   unfolding batch_numbers
   too_many_lem h = malformed (rw (lt-leb _ _ h) refl)
 
-  pub not_adding_up : {t : ℕ} → length ls ≤ 4096 → t ≡ sum ls → (t ≡ length b → ⊥) → Wrote (batch_numbers b ls) old (WriteAnswer.Refused Refusal.Cut) old
+  pub not_adding_up : {t : ℕ} → length ls ≤ 4096 → t ≡ sum ls → (t ≡ length b → ⊥) → Wrote (batch_numbers b ls) old (Err Refusal.Cut) old
   unfolding batch_numbers
   not_adding_up h e n = malformed (rw (le-leb _ _ h, ← e, ne_eqb _ _ n) refl)
 
@@ -79,10 +83,10 @@ module _ (b ls old : List ℕ) where
   good h e n = rw (le-leb _ _ h, ← e, eq-eqb _ _ n) refl
 
   pub no_room_lem : {t : ℕ} → length ls ≤ 4096 → t ≡ sum ls → t ≡ length b → length old < length ls
-      → Wrote (batch_numbers b ls) old (WriteAnswer.Refused (Refusal.NoRoom (length ls) (length old))) old
+      → Wrote (batch_numbers b ls) old (Err (Refusal.NoRoom (length ls) (length old))) old
   no_room_lem h e n l = passed (good h e n) (refuses (length ls) (length_numbers b ls) l)
 
   pub all_read : {t k : ℕ} {list : List ℕ} → length ls ≤ 4096 → t ≡ sum ls → t ≡ length b → length ls ≤ length old → length ls ≤ k → SoFar k list
-      → Wrote (batch_numbers b ls) old (WriteAnswer.Accepted (length ls)) list
+      → Wrote (batch_numbers b ls) old (Ok (length ls)) list
   all_read {k = k} h e n l m f =
       passed (good h e n) (writes (length ls) (length_numbers b ls) l (filled_as (take_all k (numbers b ls) (omega (arith, length_numbers b ls))) f))

@@ -6,17 +6,16 @@ ghost use Rattle.paper.specs.Tally.{sum};
 ghost use Rattle.paper.specs.Batch.{number_of, batch_numbers};
 ghost use Rattle.wire.specs.Writing.{Wrote};
 
-use request_file_transfer::read::{RequestAnswer, read_request};
+use request_file_transfer::read::read_request;
 use wire::refusal::Refusal;
-use wire::write::WriteAnswer;
 
 // The refusal number of reading one request, 0 where it is accepted. What is left over is no refusal.
 fn number_of(message: &[u8]) -> u8
     ensures { result ≡ number_of message.now }
 {
     match read_request(message) {
-        RequestAnswer::Accepted(_, _) => 0,
-        RequestAnswer::Refused(e) => e.number() as u8,
+        Ok(_) => 0,
+        Err(refusal) => refusal.number() as u8,
     }
 }
 
@@ -25,39 +24,35 @@ fn add_up(lengths: &[u32]) -> usize
     requires { length lengths.now ≤ 4096 }
     ensures { result ≡ sum lengths.now }
 {
-    let mut total: usize = 0;
-    let mut k: usize = 0;
-    while k < lengths.len() {
-        total += lengths[k] as usize;
-        k += 1;
+    let mut total = 0;
+    for length in lengths {
+        total += *length as usize;
     }
     total
 }
 
 // Fills the list with the refusal number of each message: 12 for more than 4,096, then 10 where the lengths don't add up to the buffer exactly, then 7 where the list
 // has fewer entries than there are messages. Refused, the list is untouched; else entries beyond the count stay as before.
-pub fn read_batch(buffer: &[u8], lengths: &[u32], list: &mut [u8]) -> WriteAnswer
+pub fn read_batch(buffer: &[u8], lengths: &[u32], list: &mut [u8]) -> Result<usize, Refusal>
     ensures { Wrote (batch_numbers buffer.now lengths.now) list.old result list.new }
 {
     let needed = lengths.len();
     if 4096 < needed {
-        return WriteAnswer::Refused(Refusal::TooMany);
+        return Err(Refusal::TooMany);
     }
     let total = add_up(lengths);
     let room = list.len();
     if total != buffer.len() {
-        return WriteAnswer::Refused(Refusal::Cut);
+        return Err(Refusal::Cut);
     }
     if room < needed {
-        return WriteAnswer::Refused(Refusal::NoRoom { needed, room });
+        return Err(Refusal::NoRoom { needed, room });
     }
-    let mut at: usize = 0;
-    let mut k: usize = 0;
-    while k < needed {
-        let end = at + lengths[k] as usize;
+    let mut at = 0;
+    for (k, length) in lengths.iter().enumerate() {
+        let end = at + *length as usize;
         list[k] = number_of(&buffer[at..end]);
         at = end;
-        k += 1;
     }
-    WriteAnswer::Accepted(needed)
+    Ok(needed)
 }
