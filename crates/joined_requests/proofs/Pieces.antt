@@ -7,10 +7,11 @@ use native.Mathlib.Numerals.{add-one}
 use native.Mathlib.Omega.{arith}
 use lib.ListN.{length, get_or, take, drop, length-drop, drop_of_length-le}
 use lib.Seq.{drop-cons, drop-drop}
+use Rattle.std.specs.Prelude.{Ok, Err}
 use Rattle.paper.specs.Answer.{Refusal, too_many, Answer, accepted, refused, Read, ◌leaving◌}
 use Rattle.paper.specs.Bytes.{Bytes}
 use Rattle.paper.specs.Request.{Request, read_request}
-use Rattle.paper.specs.Joined.{Pieces, one_piece, pieces, pieces_of, OneRequest}
+use Rattle.paper.specs.Joined.{Pieces, one_piece, pieces, pieces_of}
 use Rattle.paper.proofs.Places.{bytes-part}
 use Rattle.paper.proofs.Joined.{request_takes_its_own, no_bytes, no_place, piece_there, piece-lengths}
 use Rattle.wire.specs.Refusals.{row}
@@ -19,9 +20,7 @@ use Rattle.wire.specs.declared.refusal.Refusal.TheVariants.{TooMany}
 use Rattle.utf8.proofs.Valid.{rest_of}
 use Rattle.request_file_transfer.specs.Reading.{RequestRight}
 use Rattle.request_file_transfer.specs.declared.read.RequestFileTransferRequest.{RequestFileTransferRequest}
-use Rattle.request_file_transfer.specs.declared.read.RequestAnswer.{RequestAnswer}
 use Rattle.joined_requests.specs.Split.{HasLength, Counted}
-use Rattle.joined_requests.specs.declared.SplitAnswer.{SplitAnswer}
 
 -- ---- one piece
 -- what is accepted has a request's length
@@ -38,10 +37,10 @@ piece_read (x ∷ s) n m b e h =
 
 -- the reader's answer to the part of the buffer that begins at a place
 module _ (s : List ℕ) (at : ℕ) where
-  pub piece_found : (q : RequestFileTransferRequest) (tail : ℕ) → Bytes s → RequestRight (take (length s - at) (drop at s)) (RequestAnswer.Accepted q tail) → HasLength (drop at s) tail
+  pub piece_found : (q : RequestFileTransferRequest) (tail : ℕ) → Bytes s → RequestRight (take (length s - at) (drop at s)) (Ok (q, tail)) → HasLength (drop at s) tail
   piece_found q tail b h = rw (rest_of s at) at (piece_read (take (length s - at) (drop at s)) tail _ (bytes-part s at (length s - at) b) (sym h.paper) h.place.within)
 
-  pub piece_refused : (e : code-refusal.Refusal) → RequestRight (take (length s - at) (drop at s)) (RequestAnswer.Refused e) → read_request (drop at s) ≡ refused (row e)
+  pub piece_refused : (e : code-refusal.Refusal) → RequestRight (take (length s - at) (drop at s)) (Err e) → read_request (drop at s) ≡ refused (row e)
   piece_refused e h = rw (rest_of s at) at (sym h.paper)
 
 -- ---- the pieces so far
@@ -118,11 +117,11 @@ module _ {s : List ℕ} {at i : ℕ} (w : Walk s at i) where
 
 -- ---- the first pass
 module _ {s : List ℕ} {at i : ℕ} (w : Walk s at i) where
-  pub counted-all : length s ≤ at → Counted s (SplitAnswer.Accepted i)
+  pub counted-all : length s ≤ at → Counted s (Ok i)
   counted-all h = let (ended, many) = walk_ends w h in record { answer = rw (← ended, many); found = sym many }
 
-  pub counted-most : at < length s → i ≡ 4096 → Counted s (SplitAnswer.Refused TooMany i)
+  pub counted-most : at < length s → i ≡ 4096 → Counted s (Err (record { refusal = TooMany; found = i }))
   counted-most h e = let (ended, many) = walk_most w h e in record { answer = rw (← ended); found = sym many }
 
-  pub counted-refused : (e : code-refusal.Refusal) → at < length s → i < 4096 → read_request (drop at s) ≡ refused (row e) → Counted s (SplitAnswer.Refused e i)
+  pub counted-refused : (e : code-refusal.Refusal) → at < length s → i < 4096 → read_request (drop at s) ≡ refused (row e) → Counted s (Err (record { refusal = e; found = i }))
   counted-refused e h l r = let (ended, many) = walk_stops w h l r in record { answer = rw (← ended); found = sym many }
