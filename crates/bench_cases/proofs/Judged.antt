@@ -1,55 +1,45 @@
--- What a row asks of each sort of answer, as one fact about the answer: the tests of its fields, put together.
+-- Nothing is left over exactly if the tail begins at the end; and what was written is the expected message exactly if it stands at the front of the buffer.
 -- Assumes nothing.
-use Rattle.std.proofs.Common.{◌≡◌, ℕ, ◌+◌, ◌*◌, ◌^◌, ◌<◌, Bool, ◌&&◌, eqb, List, refl, ap, arith}
-use mathlib.Core.Logic.Iff
-use Rattle.paper.specs.Answer.{Refusal, refusal}
-use Rattle.paper.specs.Kind.{Kind}
-use Rattle.paper.specs.Request.{Request, request}
-use Rattle.paper.specs.Response.{Response, response}
-use Rattle.paper.specs.RoutineControl.{SubFunction, RoutineRequest}
-use Rattle.paper.specs.TroubleCode.{TroubleCode, trouble_code}
-use Rattle.routine_control.specs.Request.{routine_request}
-use Rattle.bench_cases.proofs.Exactly.{Tests, ◌and◌, numbers}
+use Rattle.std.proofs.Common.{◌≡◌, ℕ, ◌≤◌, Bool, true, false, eqb, leb, ◌↔◌, List, [], length, take, drop, sym, refl, ap, ◌∙◌, arith, length-drop, drop_of_length-le, eq-eqb, eqb-true, take_at, leb-true}
+use Rattle.std.specs.Prelude.{Ok}
+use Rattle.paper.specs.Answer.{Answer, accepted, refused, Read, ◌leaving◌, Reader, over}
+use Rattle.paper.specs.Rewriting.{RewrittenInto, rewritten_into}
+use Rattle.paper.proofs.Choice.{never}
+use Rattle.file_operation.specs.Rewriting.{Rewrote}
 
--- a refusal has the number, and carries the two values
-pub refusal-says : {e : Refusal} {x y z : Bool} {n a b : ℕ} → Tests x (e.number ≡ n) → Tests y (e.first ≡ a) → Tests z (e.second ≡ b) → Tests (x && y && z) (e ≡ refusal n a b)
-refusal-says p q r = Iff.trans (p and q and r) (λ ((f, g), h) i. refusal (f i) (g i) (h i), λ e. ((ap Refusal.number e, ap Refusal.first e), ap Refusal.second e))
+-- nothing is left over
+pub all_taken : (s : List ℕ) (tail : ℕ) → tail ≤ length s → (eqb tail (length s) ≡ true) ↔ (drop tail s ≡ [])
+all_taken s tail within =
+    (λ e. let h : length s ≤ tail = omega (arith, eqb-true tail (length s) e) in drop_of_length-le s h, λ e. eq-eqb tail (length s) (omega (arith, length-drop tail s, ap length e)))
 
--- a trouble code has the three bytes
-pub code_is : {c : TroubleCode} {x y z : Bool} {h m l : ℕ} → Tests x (c.high ≡ h) → Tests y (c.middle ≡ m) → Tests z (c.low ≡ l) → Tests (x && y && z) (c ≡ trouble_code h m l)
-code_is p q r = Iff.trans (p and q and r) (λ ((f, g), h) i. trouble_code (f i) (g i) (h i), λ e. ((ap TroubleCode.high e, ap TroubleCode.middle e), ap TroubleCode.low e))
+-- a message u is what the message s is rewritten to, and the n bytes at the front of the buffer are u, which has room in it
+pub record Written (answer : Answer (Read (List ℕ))) (old new t : List ℕ) (n : ℕ) : Type 0 where
+  pub u : List ℕ
+  pub is : answer ≡ accepted (u leaving t)
+  pub front : take n new ≡ u
+  pub room : length u ≤ length old
 
--- a request means this
-pub request-is : {m : Request} {u v w x y : Bool} {k : Kind} {n : List ℕ} {f a b : ℕ}
-    → Tests u (m.kind ≡ k) → Tests v (m.name ≡ n) → Tests w (m.format ≡ f) → Tests x (m.uncompressed ≡ a) → Tests y (m.compressed ≡ b)
-    → Tests (u && v && w && x && y) (m ≡ request k n f a b)
-request-is p q r s d = Iff.trans (p and q and r and s and d) (
-  λ ((((p, q), r), s), d) i. request (p i) (q i) (r i) (s i) (d i),
-  λ e. ((((ap Request.kind e, ap Request.name e), ap Request.format e), ap Request.uncompressed e), ap Request.compressed e),
-)
+-- the front of the buffer is the message
+front_of : (u old : List ℕ) → take (length u) (over u old) ≡ u
+unfolding over
+front_of u old = take_at u _ _ refl
 
--- a response means this
-pub response-is : {m : Response} {u v w x y z : Bool} {k : Kind} {n : List ℕ} {f a b c : ℕ}
-    → Tests u (m.kind ≡ k) → Tests v (m.block ≡ n) → Tests w (m.format ≡ f) → Tests x (m.uncompressed ≡ a) → Tests y (m.compressed ≡ b) → Tests z (m.position ≡ c)
-    → Tests (u && v && w && x && y && z) (m ≡ response k n f a b c)
-response-is p q r s d g = Iff.trans (p and q and r and s and d and g) (
-  λ (((((p, q), r), s), d), g) i. response (p i) (q i) (r i) (s i) (d i) (g i),
-  λ e. (((((ap Response.kind e, ap Response.block e), ap Response.format e), ap Response.uncompressed e), ap Response.compressed e), ap Response.position e),
-)
+-- it had room, or was refused
+roomy : (u t old new d : List ℕ) (n : ℕ) (b : Bool) → leb (length u) (length old) ≡ b → accepted (n leaving d) ≡ (rewritten_into (accepted (u leaving t)) old).answer
+    → new ≡ (rewritten_into (accepted (u leaving t)) old).contents → Written (accepted (u leaving t)) old new d n
+roomy u t old new d n true e h is =
+    let into : rewritten_into (accepted (u leaving t)) old ≡ record { answer = accepted (length u leaving t); contents = over u old } = rw e in
+    let same : accepted (n leaving d) ≡ accepted (length u leaving t) = h ∙ ap RewrittenInto.answer into in
+    let long : n ≡ length u = cc in
+    let left : t ≡ d = cc in
+    record { u = u; is = ap (λ (r : List ℕ). accepted (u leaving r)) left; front = rw (long, is ∙ ap RewrittenInto.contents into) (front_of u old); room = leb-true _ _ e }
+roomy u t old new d n false e h is = absurd (never (sym (rw e at h)))
 
--- a routine request means this
-pub routine-request-is : {m : RoutineRequest} {u v w x : Bool} {suppress : Bool} {f : SubFunction} {i : ℕ} {r : List ℕ}
-    → Tests u (m.suppress ≡ suppress) → Tests v (m.sub_function ≡ f) → Tests w (m.identifier ≡ i) → Tests x (m.«record» ≡ r)
-    → Tests (u && v && w && x) (m ≡ routine_request suppress f i r)
-routine-request-is p q s d = Iff.trans (p and q and s and d) (
-  λ (((p, q), s), d) i. routine_request (p i) (q i) (s i) (d i),
-  λ e. (((ap RoutineRequest.suppress e, ap RoutineRequest.sub_function e), ap RoutineRequest.identifier e), ap RoutineRequest.«record» e),
-)
+written_by : (answer : Answer (Read (List ℕ))) (old new d : List ℕ) (n : ℕ) → accepted (n leaving d) ≡ (rewritten_into answer old).answer
+    → new ≡ (rewritten_into answer old).contents → Written answer old new d n
+written_by (refused e) old new d n h is = absurd (never (sym h))
+written_by (accepted (u leaving t)) old new d n h is = roomy u t old new d n (leb (length u) (length old)) refl h is
 
--- a size below 2 ^ 64 is its low half
-pub half_is : (high low n : ℕ) → low < 2 ^ 64 → n < 2 ^ 64 → Tests (eqb high 0 && eqb low n) (high * 2 ^ 64 + low ≡ n)
-half_is high low n g h =
-    Iff.trans (numbers {a = high} {b = 0} refl refl and numbers {a = low} {b = n} refl refl) (
-      λ (p : (high ≡ 0) × (low ≡ n)). omega arith,
-      λ (p : high * 2 ^ 64 + low ≡ n). (omega arith, omega arith),
-    )
+-- the rewriter's promise says so
+pub written : {rewrite : Reader (List ℕ)} {s old new : List ℕ} {n tail : ℕ} → Rewrote rewrite s old (Ok (n, tail)) new → Written (rewrite s) old new (drop tail s) n
+written {rewrite} {s} {old} {new} {n} {tail} w = written_by (rewrite s) old new (drop tail s) n w.answer w.contents

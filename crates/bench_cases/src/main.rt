@@ -5,9 +5,12 @@ mod rows;
 mod table;
 mod tally;
 
+use crate::table::all_rows;
+use crate::tally::Tally;
 use std::io;
 
 fn main(rt: HostRuntime) -> io::Result<()> {
-    let t = table::all_rows(&rt, tally::start())?;
-    tally::sum_up(&rt, t)
+    let mut tally = Tally::start();
+    all_rows(&rt, &mut tally)?;
+    tally.sum_up(&rt)
 }

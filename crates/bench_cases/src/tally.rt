@@ -1,9 +1,8 @@
 // Prints a line for each row, and counts.
-ghost use Rattle.std.specs.Prelude.{◌≡◌, IfOk};
+ghost use Rattle.std.specs.Prelude.{◌≡◌, OnOk};
 ghost use Rattle.bench_cases.specs.Tally.{nothing_yet, counted};
 
 use std::io;
-use std::num::wrapping_add_u64;
 
 #[derive(Clone, Copy)]
 pub(crate) struct Tally {
@@ -11,51 +10,40 @@ pub(crate) struct Tally {
     differ: u64,
 }
 
-pub(crate) fn start() -> Tally
-    ensures { result ≡ nothing_yet }
-{
-    Tally { rows: 0, differ: 0 }
-}
-
 // Only prints.
-fn print_row(rt: &impl Print, what: &[u8], right: bool) -> io::Result<()> {
-    if right {
-        rt.write_all(b"right    ")?;
-    } else {
-        rt.write_all(b"DIFFERS  ")?;
-    }
-    rt.write_all(what)?;
-    rt.write_all(b"\n")
+fn print_row(rt: &impl Print, what: &str, right: bool) -> io::Result<()> {
+    let verdict = if right { "right    " } else { "DIFFERS  " };
+    println!(rt; "{verdict}{what}")
 }
 
-// `right` is whether the functions answered what the row says.
-pub(crate) fn row(t: Tally, right: bool) -> Tally
-    ensures { result ≡ counted t right }
-{
-    let rows = wrapping_add_u64(t.rows, 1);
-    if right {
-        return Tally {
-            rows,
-            differ: t.differ,
-        };
+impl Tally {
+    pub(crate) fn start() -> Tally
+        ensures { result ≡ nothing_yet }
+    {
+        Tally { rows: 0, differ: 0 }
     }
-    Tally {
-        rows,
-        differ: wrapping_add_u64(t.differ, 1),
+
+    // `right` is whether the functions answered what the row says.
+    fn count(&mut self, right: bool)
+        ensures { self.new ≡ counted self.old right }
+    {
+        self.rows = self.rows.wrapping_add(1);
+        if !right {
+            self.differ = self.differ.wrapping_add(1);
+        }
     }
-}
 
-// Prints the row, and counts it.
-pub(crate) fn tried(rt: &impl Print, t: Tally, what: &[u8], right: bool) -> io::Result<Tally>
-    ensures { IfOk result (λ now. now ≡ counted t right) }
-{
-    print_row(rt, what, right)?;
-    Ok(row(t, right))
-}
+    // Prints the row, and counts it.
+    pub(crate) fn tried(&mut self, rt: &impl Print, what: &str, right: bool) -> io::Result<()>
+        ensures { OnOk result (self.new ≡ counted self.old right) }
+    {
+        print_row(rt, what, right)?;
+        self.count(right);
+        Ok(())
+    }
 
-// Only prints.
-pub(crate) fn sum_up(rt: &impl Print, t: Tally) -> io::Result<()> {
-    let rows = t.rows;
-    let differ = t.differ;
-    println!(rt; "{rows} rows, {differ} differ")
+    // Only prints.
+    pub(crate) fn sum_up(self, rt: &impl Print) -> io::Result<()> {
+        println!(rt; "{} rows, {} differ", self.rows, self.differ)
+    }
 }
