@@ -1,6 +1,7 @@
 pub mod Reading
 pub mod Turns
 pub mod Writing
-pub mod Unique
-pub mod Calls
 pub mod Comparing
+pub mod Compared
+pub mod Calls
+pub mod Unique

@@ -1,33 +1,30 @@
 -- A turn of each loop over a listing's records: one record more in the index, and one step of a search.
 -- Assumes nothing.
 use mathlib.Core.Path.{◌≡◌, refl, sym, ap, ap₂, ◌∙◌}
-use Prim.Native.Nat.{ℕ, zero, suc, ◌+◌, ◌*◌, ◌-◌, ◌≤◌, ◌<◌}
-use mathlib.Core.Bool.{Bool, true, false}
+use Prim.Native.Nat.{ℕ, zero, suc, ◌+◌, ◌-◌, ◌≤◌, ◌<◌}
+use mathlib.Core.Bool.{Bool, true, false, ◌&&◌}
 use mathlib.Core.List.{List, [], ◌∷◌, ◌++◌, map}
 use mathlib.Core.Option.{some}
-use native.Mathlib.Nat.{sub-zero, mul-le-mul_left}
+use native.Mathlib.Nat.{sub-zero}
 use native.Mathlib.Numerals.{add-one}
 use native.Mathlib.Omega.{arith}
-use lib.ListN.{length, get_or, get_elem?, set, drop, replicate, drop_of_length-le}
-use lib.Seq.{drop-cons}
+use lib.ListN.{length, get_or, get_elem?, set, drop, replicate}
 use lib.Dec.{eqb}
-use borrow.Author.Tests.{eq-eqb, ne_eqb}
-use Rattle.paper.specs.Choice.{pick, both}
-use Rattle.paper.specs.Answer.{accepted}
+use lib.Pointwise.{pointwise}
+use mir.Val.{bool_byte}
+use Rattle.paper.specs.Choice.{both}
+use Rattle.paper.specs.Answer.{accepted, refused, no_such_code}
 use Rattle.paper.specs.TroubleCode.{TroubleCode}
-use Rattle.paper.specs.Listing.{SubFunction, Listed, record_size, one_by_one, records_in, how_many, first_with, numbers_from, Index, index_of, same_numbers, own_index, has_high, has_code, find}
+use Rattle.paper.specs.Listing.{SubFunction, Listed, one_by_one, records_in, how_many, first_with, numbers_from, Index, index_of, same_numbers, own_index, has_high, has_code, find}
 use Rattle.paper.proofs.Listing.{length_records, record_there, records-more}
-use Rattle.paper.proofs.ListingIndex.{no_counts, no_firsts, counted-more, new_first, old_first, count_small, count_at, first_at, own_only, Searching, search_starts, search_within, search_found, search_less, search_on}
+use Rattle.paper.proofs.ListingIndex.{no_counts, no_firsts, counted-more, new_first, old_first, count_small, count_at, first_at, Searching, search_starts, search_ends, search_within, search_found, search_less, search_on}
 use Rattle.dtc.specs.Status.{same_code}
-use Rattle.listing.specs.Listing.{Stands, Held, records_of, record_here}
-use Rattle.listing.specs.Index.{numbers_in}
-
-module _ (f : SubFunction) (s : List ℕ) (n k : ℕ) (held : Held f n s) (l : k < n) where
-  pub stands-held : Stands f k s
-  stands-held =
-      let next : k + 1 ≤ n = omega arith in
-      let room : record_size f * (k + 1) ≤ record_size f * n = mul-le-mul_left (record_size f) next in
-      record { few = omega (arith, held.few); long = omega (arith, held.long) }
+use Rattle.listing.specs.Listing.{records_of, record_here}
+use Rattle.std.specs.Prelude.{Option, Some, None}
+use Rattle.std.specs.Option.{ok_or}
+use Rattle.wire.specs.declared.refusal.Refusal.{Refusal}
+use Rattle.listing.specs.declared.Listed as listing
+use Rattle.listing.specs.Index.{numbers_in, found_said, look_said}
 
 -- ---- the index
 -- each of its lists has 256 numbers
@@ -82,43 +79,26 @@ module _ (f : SubFunction) (s : List ℕ) (k h : ℕ) (cs : List ℕ) (is : h �
 pub all-counted : (f : SubFunction) (s : List ℕ) {cs fs : List ℕ} {k n : ℕ} → k ≤ n → n ≤ k → cs ≡ (index_of (records_of f k s)).counts → fs ≡ (index_of (records_of f k s)).firsts → numbers_in cs fs ≡ index_of (records_of f n s)
 all-counted f s {k = k} {n} l g p q = let same : n ≡ k = omega arith in rw same (ap₂ numbers_in p q)
 
--- ---- two lists of numbers, compared from place i on
-module _ (a b : List ℕ) (i : ℕ) where
-  pub same_on : i < length a → i < length b → get_or a i 0 ≡ get_or b i 0 → same_numbers (drop (i + 1) a) (drop (i + 1) b) ≡ same_numbers (drop i a) (drop i b)
-  unfolding same_numbers
-  same_on ha hb e = rw (add-one i, drop-cons a i 0 ha, drop-cons b i 0 hb, eq-eqb _ _ e)
-
-  pub same_not : i < length a → i < length b → (get_or a i 0 ≡ get_or b i 0 → ⊥) → same_numbers (drop i a) (drop i b) ≡ false
-  unfolding same_numbers
-  same_not ha hb e = rw (drop-cons a i 0 ha, drop-cons b i 0 hb, ne_eqb _ _ e)
-
-  pub same_end : length a ≤ i → length b ≤ i → same_numbers (drop i a) (drop i b) ≡ true
-  unfolding same_numbers
-  same_end ha hb = rw (drop_of_length-le a ha, drop_of_length-le b hb)
-
--- lists of two lengths are not the same
-pub same_length : (a b : List ℕ) → (length b ≡ length a → ⊥) → same_numbers a b ≡ false
+-- ---- the own index
+-- two lists of numbers are compared as `==` does it
+same-pointwise : (xs ys : List ℕ) → pointwise eqb xs ys ≡ same_numbers xs ys
 unfolding same_numbers
-same_length [] [] h = absurd (h refl)
-same_length [] (y ∷ b) h = refl
-same_length (x ∷ a) [] h = refl
-same_length (x ∷ a) (y ∷ b) h = by (eqb x y) (same_length a b (λ e. h (ap suc e)))
+same-pointwise [] [] = refl
+same-pointwise [] (y ∷ ys) = refl
+same-pointwise (x ∷ xs) [] = refl
+same-pointwise (x ∷ xs) (y ∷ ys) = by (eqb x y) (same-pointwise xs ys)
   where
-    by : (t : Bool) → same_numbers a b ≡ false → both t (same_numbers a b) ≡ false
-    by true q = q
-    by false q = refl
+    by : (t : Bool) → pointwise eqb xs ys ≡ same_numbers xs ys → t && pointwise eqb xs ys ≡ both t (same_numbers xs ys)
+    by true e = e
+    by false e = refl
 
--- ---- the own index: x is the one that was made anew
-module _ (rs : List Listed) (cs fs xc xf : List ℕ) (made : numbers_in xc xf ≡ index_of rs) where
-  pub owns_firsts : same_numbers cs xc ≡ true → same_numbers fs xf ≡ own_index rs (numbers_in cs fs)
-  owns_firsts e = rw (← made, e) refl
+-- x is the index of the records: its counts are compared, and then its first places
+module _ (rs : List Listed) (x : Index) (made : x ≡ index_of rs) (cs fs : List ℕ) {xc : List ℕ} {same : Bool} (is : same ≡ pointwise eqb cs xc) (counts : xc ≡ x.counts) where
+  pub owns_not : same ≡ false → same ≡ own_index rs (numbers_in cs fs)
+  owns_not e = e ∙ rw (← made, ← counts, ← same-pointwise cs xc, ← is, e) refl
 
-  pub owns_not : same_numbers cs xc ≡ false → false ≡ own_index rs (numbers_in cs fs)
-  owns_not e = rw (← made, e) refl
-
--- what is known of lists that are the own index
-pub is_own : (rs : List Listed) (cs fs : List ℕ) → own_index rs (numbers_in cs fs) ≡ true → numbers_in cs fs ≡ index_of rs
-is_own rs cs fs own = own_only rs (numbers_in cs fs) own
+  pub owns_firsts : {xf : List ℕ} {rest : Bool} → same ≡ true → rest ≡ pointwise eqb fs xf → xf ≡ x.firsts → rest ≡ own_index rs (numbers_in cs fs)
+  owns_firsts {xf} e told firsts = told ∙ rw (← made, ← counts, ← same-pointwise cs xc, ← is, e, ← firsts, same-pointwise fs xf) refl
 
 module _ (rs : List Listed) (cs fs : List ℕ) (own : numbers_in cs fs ≡ index_of rs) where
   pub own_lengths : (length cs ≡ 256) × (length fs ≡ 256)
@@ -131,18 +111,33 @@ module _ (rs : List Listed) (cs fs : List ℕ) (own : numbers_in cs fs ≡ index
   own_first {h} small e = ap (λ (x : Index). get_or x.firsts h 0) own ∙ first_at rs h small ∙ ap (first_with rs) e
 
 -- ---- the search
+-- two codes are compared as `==` does it
+three : (x y z : Bool) → both x (both y z) ≡ x && (y && z)
+three true true z = refl
+three true false z = refl
+three false y z = refl
+
+pub code_same : (a b : TroubleCode) {same : Bool} → same ≡ eqb a.high b.high && (eqb a.middle b.middle && eqb a.low b.low) → same_code a b ≡ same
+code_same a b is = three (eqb a.high b.high) (eqb a.middle b.middle) (eqb a.low b.low) ∙ sym is
+
+nought : (n : ℕ) → (0 < n → ⊥) → n ≡ 0
+nought zero h = refl
+nought (suc n) h = absurd (h (omega arith))
+
 -- it starts where the index says
-pub started : (f : SubFunction) (s : List ℕ) (n : ℕ) (c : TroubleCode) {first count : ℕ} → first ≡ first_with (records_of f n s) c.high → count ≡ how_many (records_of f n s) c.high
-    → (first ≤ n) × Searching c (records_of f n s) first count
-started f s n c p q = let now = search_starts c (records_of f n s) in rw (p, q) (omega (arith, now.within, length_records f n (drop 3 s)), now)
+pub started : (f : SubFunction) (s : List ℕ) (n : ℕ) (c : TroubleCode) {x : Index} {h : ℕ} → x ≡ index_of (records_of f n s) → h < 256 → h ≡ c.high
+    → Searching c (records_of f n s) (get_or x.firsts h 0) (get_or x.counts h 0)
+started f s n c own small is = rw (own_first (records_of f n s) _ _ own small is, own_count (records_of f n s) _ _ own small is) (search_starts c (records_of f n s))
 
-module _ (f : SubFunction) (s : List ℕ) (n : ℕ) (c : TroubleCode) (k left : ℕ) (now : Searching c (records_of f n s) k left) (some_left : 0 < left) where
-  pub searched_within : k < n
-  searched_within = omega (arith, search_within c (records_of f n s) k left now some_left, length_records f n (drop 3 s))
+module _ (f : SubFunction) (s : List ℕ) (n : ℕ) (c : TroubleCode) (k left : ℕ) (now : Searching c (records_of f n s) k left) where
+  -- behind the last record none is left
+  pub none_behind : n ≤ k → find 0 c (records_of f n s) ≡ refused no_such_code
+  none_behind l =
+      search_ends c (records_of f n s) k left now (nought left (λ h. let within = search_within c (records_of f n s) k left now h in omega (arith, length_records f n (drop 3 s))))
 
-  module _ (r : Listed) (is : r ≡ record_here f s k) where
+  module _ (below : k < n) (r : Listed) (is : r ≡ record_here f s k) where
     stands : get_elem? (records_of f n s) k ≡ some r
-    stands = rw is (record_there f n k (drop 3 s) searched_within)
+    stands = rw is (record_there f n k (drop 3 s) below)
 
     -- the code that was asked for
     pub found_here : same_code r.code c ≡ true → accepted (record { place = k; «record» = r }) ≡ find 0 c (records_of f n s)
@@ -150,14 +145,15 @@ module _ (f : SubFunction) (s : List ℕ) (n : ℕ) (c : TroubleCode) (k left : 
     found_here e = sym (search_found c (records_of f n s) k left now r stands e)
 
     -- another
-    pub goes_on_lem : same_code r.code c ≡ false → Searching c (records_of f n s) (k + 1) (left - pick (eqb r.code.high c.high) 1 0)
+    pub goes_on_lem : same_code r.code c ≡ false → {a b one : ℕ} → a ≡ r.code.high → b ≡ c.high → one ≡ bool_byte (eqb a b) → Searching c (records_of f n s) (k + 1) (left - one)
     unfolding has_code
-    goes_on_lem e = rw (add-one k) (by (has_high c.high r) refl)
+    goes_on_lem e p q is = rw (add-one k, is, p, q) (by (has_high c.high r) refl)
       where
-        by : (b : Bool) → has_high c.high r ≡ b → Searching c (records_of f n s) (suc k) (left - pick b 1 0)
+        by : (b : Bool) → has_high c.high r ≡ b → Searching c (records_of f n s) (suc k) (left - bool_byte b)
         by true h = search_less c (records_of f n s) k left now r stands h e
         by false h = rw (sub-zero left) (search_on c (records_of f n s) k left now r stands h)
 
-pub one_le : (b : Bool) → pick b 1 0 ≤ 1
-one_le true = omega arith
-one_le false = omega arith
+-- where none was found, it is 16
+pub looked : (found : Option (ℕ × listing.Listed)) → look_said (ok_or found Refusal.NoSuchCode) ≡ found_said found
+looked (Some x) = refl
+looked None = refl

@@ -1,7 +1,7 @@
 -- A turn of each loop over records that are handed over: one more that fits, and one more that is written behind the others.
 -- Assumes nothing.
 use mathlib.Core.Path.{◌≡◌, refl, sym, ap, ◌∙◌}
-use Prim.Native.Nat.{ℕ, ◌+◌, ◌*◌, ◌/◌, ◌%◌, ◌≤◌, ◌<◌}
+use Prim.Native.Nat.{ℕ, ◌+◌, ◌*◌, ◌/◌, ◌≤◌, ◌<◌}
 use mathlib.Core.Bool.{true, false}
 use mathlib.Core.List.{List, [], ◌∷◌, ◌++◌}
 use native.Mathlib.Nat.{mul-le-mul_left}
@@ -12,7 +12,7 @@ use lib.Seq.{get_or-drop}
 use borrow.Author.Tests.{eq-eqb, ne_eqb}
 use Rattle.paper.specs.Answer.{accepted, refused, out_of_range}
 use Rattle.paper.specs.TroubleCode.{trouble_code}
-use Rattle.paper.specs.Listing.{SubFunction, Listed, unknown_severity, known_severity, record_size, record_bytes, listing, listing_bytes, answer_byte, sub_function_byte, records_bytes, one_by_one, first_place, unfit, handed_of, handed_in, write_handed}
+use Rattle.paper.specs.Listing.{SubFunction, Listed, unknown_severity, known_severity, record_size, record_bytes, listing, listing_bytes, answer_byte, sub_function_byte, records_bytes, one_by_one, first_place, unfit, handed_of, handed_in, write_listing, write_handed}
 use Rattle.paper.proofs.FirstPlace.{PassedOver, passes, passes_not}
 use Rattle.paper.proofs.Listing.{length_bytes, bytes-more, length_handed, handed_there, handed_more, handed_whole, unfit-refused, fit_written}
 use Rattle.wire.specs.Writing.{Filled}
@@ -32,8 +32,8 @@ module _ (b : List ℕ) (at : ℕ) where
 
 -- ---- one record more that fits
 module _ (f : SubFunction) (b : List ℕ) (n k : ℕ) (below : k < n) (passed : PassedOver (unfit f) (handed_in n b) k) {r : Listed} (is : r ≡ handed_of (drop (7 * k) b)) where
-  pub is-unfit-here : unfit f r ≡ true → k ≡ first_place (unfit f) (handed_in n b)
-  is-unfit-here e = passes (unfit f) (handed_in n b) k passed (handed_there n k b below) (rw (← is) e)
+  pub is-unfit-here : unfit f r ≡ true → first_place (unfit f) (handed_in n b) ≡ k
+  is-unfit-here e = sym (passes (unfit f) (handed_in n b) k passed (handed_there n k b below) (rw (← is) e))
 
   pub fits-here : unfit f r ≡ false → PassedOver (unfit f) (handed_in n b) (k + 1)
   fits-here e = rw (add-one k) (passes_not (unfit f) (handed_in n b) k passed (handed_there n k b below) (rw (← is) e))
@@ -78,10 +78,16 @@ pub length_listing : (f : SubFunction) (m : ℕ) (b : List ℕ) (n : ℕ) → le
 unfolding listing_bytes
 length_listing f m b n = omega (arith, length_up_to f b n)
 
--- ---- the cases of writing records that are handed over
-module _ (f : SubFunction) (m : ℕ) (b : List ℕ) (few : length b / 7 ≤ 4096) (whole : length b % 7 ≡ 0) {p : ℕ} (first : p ≡ first_place (unfit f) (handed_in (length b / 7) b)) where
-  pub not_fit : p < length b / 7 → write_handed f m b ≡ refused (out_of_range p)
-  not_fit h = handed_whole f m b few whole ∙ rw first (unfit-refused (listing f m (handed_in (length b / 7) b)) (rw (length_handed (length b / 7) b) few) (rw (length_handed (length b / 7) b, ← first) h))
+-- ---- the cases of writing n whole records that are handed over
+module _ (f : SubFunction) (m : ℕ) (b : List ℕ) (n : ℕ) (few : n ≤ 4096) (whole : length b ≡ 7 * n) where
+  handed : write_handed f m b ≡ write_listing (listing f m (handed_in n b))
+  handed =
+      let count : length b / 7 ≡ n = omega arith in
+      rw count at (handed_whole f m b (omega arith) (omega arith))
 
-  pub all_fit : p ≡ length b / 7 → write_handed f m b ≡ accepted (listing_bytes (listing f m (handed_in (length b / 7) b)))
-  all_fit h = handed_whole f m b few whole ∙ fit_written (listing f m (handed_in (length b / 7) b)) (rw (length_handed (length b / 7) b) few) (sym first ∙ h ∙ sym (length_handed (length b / 7) b))
+  module _ {p : ℕ} (first : first_place (unfit f) (handed_in n b) ≡ p) where
+    pub not_fit : p < n → write_handed f m b ≡ refused (out_of_range p)
+    not_fit h = handed ∙ rw (← first) (unfit-refused (listing f m (handed_in n b)) (rw (length_handed n b) few) (rw (length_handed n b, first) h))
+
+    pub all_fit : p ≡ n → write_handed f m b ≡ accepted (listing_bytes (listing f m (handed_in n b)))
+    all_fit h = handed ∙ fit_written (listing f m (handed_in n b)) (rw (length_handed n b) few) (first ∙ h ∙ sym (length_handed n b))

@@ -1,66 +1,57 @@
 // The index beside a listing: for each of the 256 high bytes, how many records have it and the place of the first, 0 where there is none. And codes, looked up by it.
-ghost use Rattle.std.specs.Prelude.{◌≡◌, ◌*◌, ◌<◌, drop, eqb};
-ghost use Rattle.paper.specs.Choice.{pick};
-ghost use Rattle.paper.specs.Listing.{record_size, record_of, read_listing, how_many, first_with, index_of, same_numbers, own_index, find, look_up};
+// Two arrays of fixed size, and no map: the libraries use no heap, and C is handed an index, and hands it back, as these.
+ghost use Rattle.std.specs.Prelude.{◌≡◌, ◌<◌};
+ghost use Rattle.paper.specs.Listing.{read_listing, index_of, zero_index, own_index, find, look_up};
 ghost use Rattle.dtc.specs.Status.{code_of};
-ghost use Rattle.listing.specs.Listing.{sub_of, Stands, Held, records_of};
-ghost use Rattle.listing.specs.Index.{numbers_in, HasIndex, IndexedRight, look_said};
+ghost use Rattle.listing.specs.Listing.{sub_of};
+ghost use Rattle.listing.specs.Records.{listed_in, listed_at};
+ghost use Rattle.listing.specs.Index.{index_said, numbers_in, IndexedRight, found_said, look_said};
+ghost use Rattle.listing.specs.Searchable.{searched, searched_said};
 
-use crate::{Listed, ListingAnswer, SubFunction, read_listing, record_in};
-use dtc::status::DtcRecord;
+use crate::records::Records;
+use crate::searchable::Searchable;
+use crate::{Listed, SubFunction};
+use dtc::status::{DtcRecord, DtcStatusMask};
 use wire::refusal::Refusal;
 
 // Counts and first places, by high byte.
 #[derive(Clone, Copy)]
-pub(crate) struct Index {
-    pub(crate) counts: [u32; 256],
-    pub(crate) firsts: [u32; 256],
-}
-
-// What reading the listing says, and its index: all zeros beside a refusal.
-#[derive(Clone, Copy)]
-pub struct Indexed {
-    pub listing: ListingAnswer,
+pub struct Index {
     pub counts: [u32; 256],
     pub firsts: [u32; 256],
 }
 
-// The place of a record and the record, or the refusal.
+// What reading the listing says, and its index. No `Result` of an index: `IndexedRight` promises all zeros beside a refusal, and C reads them.
 #[derive(Clone, Copy)]
-pub enum LookUpAnswer {
-    Accepted(usize, Listed),
-    Refused(Refusal),
+pub struct Indexed {
+    pub listing: Result<(DtcStatusMask, usize), Refusal>,
+    pub index: Index,
 }
 
-// The high byte of the record at a place of the message that has one there.
-fn high_in(sub: SubFunction, s: &[u8], k: usize) -> usize
-    requires { Stands (sub_of sub) k s.now }
-    ensures { (result ≡ (record_of (sub_of sub) (drop (record_size (sub_of sub) * k) (drop 3 s.now))).code.high) × (result < 256) }
+// The high byte of the record at a place that has one.
+fn high_at(records: &Records, place: usize) -> usize
+    requires { place < records.now.count }
+    ensures value { result ≡ (listed_at records.now place).code.high }
+    ensures byte { result < 256 }
 {
-    let listed = record_in(sub, s, k);
-    let code = listed.code;
-    code.high_byte() as usize
+    usize::from(records.at(place).code.high_byte())
 }
 
-// The index of the n records of a listing, in one pass.
-pub(crate) fn index_records(sub: SubFunction, s: &[u8], n: usize) -> Index
-    requires { Held (sub_of sub) n s.now }
-    ensures { numbers_in result.counts result.firsts ≡ index_of (records_of (sub_of sub) n s.now) }
-{
-    let mut counts = [0u32; 256];
-    let mut firsts = [0u32; 256];
-    let mut k: usize = 0;
-    while k < n {
-        let h = high_in(sub, s, k);
-        if counts[h] == 0 {
-            firsts[h] = k as u32;
+impl Index {
+    // The index of a listing's records, in one pass.
+    fn of(records: &Records) -> Index
+        ensures { index_said result ≡ index_of (listed_in records.now) }
+    {
+        let mut counts = [0u32; 256];
+        let mut firsts = [0u32; 256];
+        for k in 0..records.count {
+            let h = high_at(records, k);
+            if counts[h] == 0 {
+                firsts[h] = k as u32;
+            }
+            counts[h] += 1;
         }
-        counts[h] += 1;
-        k += 1;
-    }
-    Index {
-        counts: counts,
-        firsts: firsts,
+        Index { counts, firsts }
     }
 }
 
@@ -68,124 +59,72 @@ pub(crate) fn index_records(sub: SubFunction, s: &[u8], n: usize) -> Index
 pub fn index_listing(sub: SubFunction, s: &[u8]) -> Indexed
     ensures { IndexedRight (read_listing (sub_of sub) s.now) result }
 {
-    let listing = read_listing(sub, s);
-    let ListingAnswer::Accepted(_, records) = listing else {
-        return Indexed {
-            listing,
-            counts: [0u32; 256],
-            firsts: [0u32; 256],
-        };
-    };
-    let x = index_records(sub, s, records);
-    let counts = x.counts;
-    let firsts = x.firsts;
-    Indexed {
-        listing,
-        counts: counts,
-        firsts: firsts,
+    match Records::of(sub, s) {
+        Ok(records) => Indexed {
+            listing: Ok(records.head()),
+            index: Index::of(&records),
+        },
+        Err(e) => Indexed {
+            listing: Err(e),
+            index: Index {
+                counts: [0; 256],
+                firsts: [0; 256],
+            },
+        },
     }
 }
 
-// Whether two lists of numbers are the same.
-fn same_numbers(a: &[u32], b: &[u32]) -> bool
-    ensures { result ≡ same_numbers a.now b.now }
-{
-    let n = a.len();
-    if b.len() != n {
-        return false;
+impl<'a> Searchable<'a> {
+    // The refusals are those of reading.
+    pub(crate) fn of(sub: SubFunction, message: &'a [u8]) -> Result<Searchable<'a>, Refusal>
+        ensures { searched_said result ≡ read_listing (sub_of sub) message.now }
+    {
+        let records = Records::of(sub, message)?;
+        let index = Index::of(&records);
+        Ok(Searchable { records, index })
     }
-    let mut i: usize = 0;
-    while i < n {
-        if a[i] != b[i] {
-            return false;
+
+    // Whether these are its counts and first places, all 256 of each.
+    fn owns(&self, counts: &[u32], firsts: &[u32]) -> bool
+        ensures { result ≡ own_index (searched self.now) (numbers_in counts.now firsts.now) }
+    {
+        counts == self.index.counts.as_slice() && firsts == self.index.firsts.as_slice()
+    }
+
+    // The first record that has the code, and its place. It is searched from the first record with its high byte on, until the count of that byte is used up.
+    pub(crate) fn find(&self, code: DtcRecord) -> Option<(usize, Listed)>
+        ensures { found_said result ≡ find 0 (code_of code) (searched self.now) }
+    {
+        let high = usize::from(code.high_byte());
+        let mut left = self.index.counts[high];
+        for k in self.index.firsts[high] as usize..self.records.count {
+            if left == 0 {
+                return None;
+            }
+            let listed = self.records.at(k);
+            if listed.code == code {
+                return Some((k, listed));
+            }
+            left -= u32::from(listed.code.high_byte() == code.high_byte());
         }
-        i += 1;
-    }
-    true
-}
-
-// Whether counts and first places are those of the n records of a listing, all 256 of each.
-fn owns(sub: SubFunction, s: &[u8], n: usize, counts: &[u32], firsts: &[u32]) -> bool
-    requires { Held (sub_of sub) n s.now }
-    ensures { result ≡ own_index (records_of (sub_of sub) n s.now) (numbers_in counts.now firsts.now) }
-{
-    let x = index_records(sub, s, n);
-    if same_numbers(counts, &x.counts) {
-        same_numbers(firsts, &x.firsts)
-    } else {
-        false
+        None
     }
 }
 
-// 1 where two codes have the same high byte, else 0.
-fn one_if_same_high(a: DtcRecord, b: DtcRecord) -> u32
-    ensures { result ≡ pick (eqb (code_of a).high (code_of b).high) 1 0 }
-{
-    if a.high_byte() == b.high_byte() {
-        return 1;
-    }
-    0
-}
-
-// The first record that has the code, from the first record with its high byte on; when the count of that byte is used up there is none, and it is 16.
-fn search_from(
-    sub: SubFunction,
-    s: &[u8],
-    n: usize,
-    code: DtcRecord,
-    first: usize,
-    count: u32,
-) -> LookUpAnswer
-    requires { Held (sub_of sub) n s.now × (first ≡ first_with (records_of (sub_of sub) n s.now) (code_of code).high) × (count ≡ how_many (records_of (sub_of sub) n s.now) (code_of code).high) }
-    ensures { look_said result ≡ find 0 (code_of code) (records_of (sub_of sub) n s.now) }
-{
-    let mut k = first;
-    let mut left = count;
-    while 0 < left {
-        let listed = record_in(sub, s, k);
-        let found = listed.code;
-        if found.equals(code) {
-            return LookUpAnswer::Accepted(k, listed);
-        }
-        left -= one_if_same_high(found, code);
-        k += 1;
-    }
-    LookUpAnswer::Refused(Refusal::NoSuchCode)
-}
-
-// The first record that has the code, or 16: counts and first places are the listing's own.
-pub(crate) fn find_by(
-    sub: SubFunction,
-    s: &[u8],
-    n: usize,
-    counts: &[u32],
-    firsts: &[u32],
-    code: DtcRecord,
-) -> LookUpAnswer
-    requires { HasIndex (sub_of sub) n s.now counts.now firsts.now }
-    ensures { look_said result ≡ find 0 (code_of code) (records_of (sub_of sub) n s.now) }
-{
-    let h = code.high_byte() as usize;
-    search_from(sub, s, n, code, firsts[h] as usize, counts[h])
-}
-
-// The first record that has the code. The refusals are those of reading, then 11 for counts and first places that are not this listing's own, then 16 exactly if
-// no record has the code. Every lookup makes the index anew to compare it: an index of another listing would find another record.
+// The first record that has the code, and its place. The refusals are those of reading, then 11 for counts and first places that are not this listing's own, then 16 exactly if
+// no record has the code. These are lists of any length, as C hands them over: an index of another length is refused, too. Every lookup makes the index anew to compare it: an index of another listing would find another record.
 pub fn look_up(
     sub: SubFunction,
     s: &[u8],
     counts: &[u32],
     firsts: &[u32],
     code: DtcRecord,
-) -> LookUpAnswer
+) -> Result<(usize, Listed), Refusal>
     ensures { look_said result ≡ look_up (sub_of sub) s.now (numbers_in counts.now firsts.now) (code_of code) }
 {
-    let listing = read_listing(sub, s);
-    let ListingAnswer::Accepted(_, records) = listing else {
-        return LookUpAnswer::Refused(listing.refusal());
-    };
-    if !owns(sub, s, records, counts, firsts) {
-        return LookUpAnswer::Refused(Refusal::OutOfRange { place: 0 });
+    let listing = Searchable::of(sub, s)?;
+    if !listing.owns(counts, firsts) {
+        return Err(Refusal::OutOfRange { place: 0 });
     }
-    find_by(sub, s, records, counts, firsts, code)
+    listing.find(code).ok_or(Refusal::NoSuchCode)
 }

@@ -3,19 +3,25 @@
 #![tactic(auto)]
 
 pub mod changes;
+mod handed;
 pub mod index;
+mod records;
+mod searchable;
 pub mod write;
 
-ghost use Rattle.std.specs.Prelude.{◌≡◌, ◌/◌, ◌%◌, ◌+◌, ◌*◌, ◌≤◌, length, drop};
+ghost use Rattle.std.specs.Prelude.{◌≡◌, ◌+◌, ◌*◌, ◌<◌, ◌≤◌, length, drop, Ok};
+ghost use Rattle.paper.specs.Answer.{accepted};
 ghost use Rattle.paper.specs.Listing.{by_status_mask, by_severity_mask, sub_function_byte, record_size, record_of, read_listing, head_of, record_at};
 ghost use Rattle.paper.specs.ListingProgram.{sub_function_said};
-ghost use Rattle.listing.specs.Listing.{sub_of, listed_of, head_said, head_refusal, record_said, Stands};
+ghost use Rattle.listing.specs.Listing.{sub_of, listed_of, head_said, record_said};
+ghost use Rattle.listing.specs.Records.{listed_at, listing_of, read_said};
 
+use crate::records::Records;
 use dtc::status::{DtcRecord, DtcSeverityMask, DtcStatusMask};
 use wire::refusal::Refusal;
 
 // Which question a listing answers, and with it a record's form.
-#[derive(Clone, Copy)]
+#[derive(Clone, Copy, Debug, PartialEq, Eq)]
 pub enum SubFunction {
     // 0x02: three code bytes and a status byte.
     ByStatusMask,
@@ -24,6 +30,7 @@ pub enum SubFunction {
 }
 
 // A record: whether severity and functional unit are known, these two, a code and its status. Unknown ones are read as 0.
+// A flag beside them, and no `Option`: `put_record` writes the two bytes of a record whose flag is false, too, whatever they are.
 #[derive(Clone, Copy)]
 pub struct Listed {
     pub known: bool,
@@ -33,22 +40,8 @@ pub struct Listed {
     pub status: DtcStatusMask,
 }
 
-// The availability mask and how many records there are, or the refusal.
-#[derive(Clone, Copy)]
-pub enum ListingAnswer {
-    Accepted(DtcStatusMask, usize),
-    Refused(Refusal),
-}
-
-// The record at a place, or nothing.
-#[derive(Clone, Copy)]
-pub enum RecordAnswer {
-    Nothing,
-    Record(Listed),
-}
-
 impl SubFunction {
-    // The byte after the answer byte.
+    // The byte after the answer byte. A method, and no `From`: its name says which number of the sub-function it is.
     pub fn byte(self) -> u8
         ensures { result ≡ sub_function_byte (sub_of self) }
     {
@@ -57,16 +50,16 @@ impl SubFunction {
             SubFunction::BySeverityMask => 0x08,
         }
     }
-}
 
-impl ListingAnswer {
-    // The refusal; of a listing that was accepted there is none, and WrongFormat stands in.
-    pub fn refusal(self) -> Refusal
-        ensures { result ≡ head_refusal self }
+    // How many bytes a record has.
+    fn record_size(self) -> usize
+        ensures size { result ≡ record_size (sub_of self) }
+        ensures some { 0 < result }
+        ensures few { result ≤ 6 }
     {
         match self {
-            ListingAnswer::Refused(e) => e,
-            ListingAnswer::Accepted(_, _) => Refusal::WrongFormat { good: 0 },
+            SubFunction::ByStatusMask => 4,
+            SubFunction::BySeverityMask => 6,
         }
     }
 }
@@ -75,60 +68,10 @@ impl ListingAnswer {
 pub fn sub_function_said(s: &[u8]) -> SubFunction
     ensures { sub_of result ≡ sub_function_said s.now }
 {
-    if s.len() < 2 {
-        return SubFunction::ByStatusMask;
+    match s.get(1) {
+        Some(0x08) => SubFunction::BySeverityMask,
+        _ => SubFunction::ByStatusMask,
     }
-    if s[1] == 0x08 {
-        return SubFunction::BySeverityMask;
-    }
-    SubFunction::ByStatusMask
-}
-
-// How many whole records so many bytes have.
-fn whole(sub: SubFunction, len: usize) -> usize
-    ensures { result ≡ len / record_size (sub_of sub) }
-{
-    match sub {
-        SubFunction::ByStatusMask => len / 4,
-        SubFunction::BySeverityMask => len / 6,
-    }
-}
-
-// How many bytes are left behind them.
-fn left_over(sub: SubFunction, len: usize) -> usize
-    ensures { result ≡ len % record_size (sub_of sub) }
-{
-    match sub {
-        SubFunction::ByStatusMask => len % 4,
-        SubFunction::BySeverityMask => len % 6,
-    }
-}
-
-// 1 for fewer than 3 bytes, 15 for wrong first bytes, 12 for more than 4,096 whole records, 10 for a cut one. No record is good.
-pub fn read_listing(sub: SubFunction, s: &[u8]) -> ListingAnswer
-    ensures { head_said result ≡ head_of (read_listing (sub_of sub) s.now) }
-{
-    let len = s.len();
-    if len < 3 {
-        return ListingAnswer::Refused(Refusal::TooShort {
-            needed: 3,
-            available: len,
-        });
-    }
-    if s[0] != 0x59 {
-        return ListingAnswer::Refused(Refusal::UnknownService { place: 0 });
-    }
-    if s[1] != sub.byte() {
-        return ListingAnswer::Refused(Refusal::UnknownService { place: 0 });
-    }
-    let records = whole(sub, len - 3);
-    if 4096 < records {
-        return ListingAnswer::Refused(Refusal::TooMany);
-    }
-    if left_over(sub, len - 3) != 0 {
-        return ListingAnswer::Refused(Refusal::Cut);
-    }
-    ListingAnswer::Accepted(DtcStatusMask::from_bits(s[2]), records)
 }
 
 // The record whose four bytes begin here.
@@ -159,27 +102,73 @@ fn six_at(s: &[u8], at: usize) -> Listed
     }
 }
 
-// The record at a place of the message that has one there.
-pub(crate) fn record_in(sub: SubFunction, s: &[u8], k: usize) -> Listed
-    requires { Stands (sub_of sub) k s.now }
-    ensures { listed_of result ≡ record_of (sub_of sub) (drop (record_size (sub_of sub) * k) (drop 3 s.now)) }
-{
-    match sub {
-        SubFunction::ByStatusMask => four_at(s, 3 + 4 * k),
-        SubFunction::BySeverityMask => six_at(s, 3 + 6 * k),
+impl<'a> Records<'a> {
+    // 1 for fewer than 3 bytes, 15 for wrong first bytes, 12 for more than 4,096 whole records, 10 for a cut one. No record is good.
+    pub(crate) fn of(sub: SubFunction, message: &'a [u8]) -> Result<Records<'a>, Refusal>
+        ensures { read_said result ≡ read_listing (sub_of sub) message.now }
+    {
+        let available = message.len();
+        if available < 3 {
+            return Err(Refusal::TooShort {
+                needed: 3,
+                available,
+            });
+        }
+        if message[0] != 0x59 {
+            return Err(Refusal::UnknownService { place: 0 });
+        }
+        if message[1] != sub.byte() {
+            return Err(Refusal::UnknownService { place: 0 });
+        }
+        let size = sub.record_size();
+        let count = (available - 3) / size;
+        if 4096 < count {
+            return Err(Refusal::TooMany);
+        }
+        if (available - 3) % size != 0 {
+            return Err(Refusal::Cut);
+        }
+        Ok(Records {
+            sub,
+            message,
+            count,
+        })
+    }
+
+    // The availability mask, and how many records there are.
+    pub(crate) fn head(&self) -> (DtcStatusMask, usize)
+        ensures { head_said (Ok result) ≡ head_of (accepted (listing_of self.now)) }
+    {
+        (DtcStatusMask::from_bits(self.message[2]), self.count)
+    }
+
+    // The record at a place that has one.
+    pub(crate) fn at(&self, place: usize) -> Listed
+        requires { place < self.now.count }
+        ensures { listed_of result ≡ listed_at self.now place }
+    {
+        match self.sub {
+            SubFunction::ByStatusMask => four_at(self.message, 3 + 4 * place),
+            SubFunction::BySeverityMask => six_at(self.message, 3 + 6 * place),
+        }
     }
 }
 
+// The availability mask and how many records there are, or why it is no listing.
+pub fn read_listing(sub: SubFunction, s: &[u8]) -> Result<(DtcStatusMask, usize), Refusal>
+    ensures { head_said result ≡ head_of (read_listing (sub_of sub) s.now) }
+{
+    Ok(Records::of(sub, s)?.head())
+}
+
 // The record at this place, counted from 0: nothing past the last one, and nothing of a listing that is refused.
-pub fn record_at(sub: SubFunction, s: &[u8], place: usize) -> RecordAnswer
+pub fn record_at(sub: SubFunction, s: &[u8], place: usize) -> Option<Listed>
     ensures { record_said result ≡ record_at place (read_listing (sub_of sub) s.now) }
 {
-    let listing = read_listing(sub, s);
-    let ListingAnswer::Accepted(_, records) = listing else {
-        return RecordAnswer::Nothing;
-    };
-    if records <= place {
-        return RecordAnswer::Nothing;
+    let records = Records::of(sub, s).ok()?;
+    if place < records.count {
+        Some(records.at(place))
+    } else {
+        None
     }
-    RecordAnswer::Record(record_in(sub, s, place))
 }

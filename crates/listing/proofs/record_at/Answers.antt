@@ -1,17 +1,17 @@
--- `listing::record_at` meets its contract: nothing of a refused listing and past the end, else the record there.
-use mathlib.Core.Path.{sym, ap, ◌∙◌}
-use Rattle.listing.specs.Listing.{head_said}
-use Rattle.listing.proofs.Reading.{holds, not_read, past, stands, here}
+-- `record_at` meets its contract: the record there, or none past the end.
+use mathlib.Core.Path.{sym, ◌∙◌}
+use Rattle.listing.specs.Listing.{sub_of}
+use Rattle.listing.proofs.Reading.{past, here, read_ok}
 use Rattle.listing.proofs.record_at.Goals as goal
 
-pub returns-in_default : goal.returns-in_default
-returns-in_default c = rw (not_read _ c.args.s.now (ap head_said (sym c.in_default.is) ∙ c.read_listing-listing.ensures))
+pub returns-then-place-records : goal.returns-then-place-records
+returns-then-place-records c =
+    let r = c.in_ok-records.records in
+    let read = sym c.of.ensures ∙ read_ok c.of.result (sym c.ok.ensures.value ∙ c.in_ok-records.was) in
+    rw (read, c.at.ensures) (here (sub_of r.sub) r.count r.message.now c.args.place c.if-place-records.true)
 
-pub returns-then-records-place : goal.returns-then-records-place
-returns-then-records-place c = past _ _ _ _ (holds _ c.args.s.now (ap head_said (sym c.in-Accepted.is) ∙ c.read_listing-listing.ensures)) c.args.place c.if-records-place.true
-
-pub record_in-requires : goal.record_in-requires
-record_in-requires c = stands _ _ _ _ (holds _ c.args.s.now (ap head_said (sym c.in-Accepted.is) ∙ c.read_listing-listing.ensures)) c.args.place c.if-records-place.false
-
-pub returns : goal.returns
-returns c = here _ _ _ _ (holds _ c.args.s.now (ap head_said (sym c.in-Accepted.is) ∙ c.read_listing-listing.ensures)) c.args.place c.if-records-place.false c.record_in.ensures
+pub returns-else-place-records : goal.returns-else-place-records
+returns-else-place-records c =
+    let r = c.in_ok-records.records in
+    let read = sym c.of.ensures ∙ read_ok c.of.result (sym c.ok.ensures.value ∙ c.in_ok-records.was) in
+    rw read (past (sub_of r.sub) r.count r.message.now c.args.place c.if-place-records.false)

@@ -1,21 +1,24 @@
--- `listing::changes::first_repeated` meets its contract: the codes of the first k records didn't stand before, and what is told from there on is what is told.
-use borrow.Author.Rules.{rules}
+-- `first_repeated` meets its contract: the codes of the first records didn't stand before, and what is told from there on is what is told.
 use mathlib.Core.Path.{sym, ◌∙◌}
 use Rattle.paper.proofs.Repeats.{repeating_starts}
+use Rattle.listing.specs.Listing.{sub_of}
 use Rattle.listing.proofs.Comparing.{repeat_ends, repeat_found, repeat_on}
 use Rattle.listing.proofs.changes.first_repeated.Goals as goal
 
-pub loop-k-init : goal.loop-k-init
-loop-k-init c = (search rules, repeating_starts _)
-
-pub stood_before-requires : goal.stood_before-requires
-stood_before-requires c = (record { held = c.requires; index = c.index_records-x.ensures }, c.loop-k-test.true)
+pub loop-place-init : goal.loop-place-init
+loop-place-init c = repeating_starts _
 
 pub returns-then-stood_before : goal.returns-then-stood_before
-returns-then-stood_before c = let a = c.args in repeat_found _ a.s.now a.n c.loop-k.k c.loop-k.invariant.1 c.loop-k-test.true (sym c.stood_before.ensures ∙ c.if-stood_before.true)
+returns-then-stood_before c =
+    let r = c.args.listing.now.records in
+    (repeat_found (sub_of r.sub) r.message.now r.count c.loop-place.place c.loop-place.invariant c.loop-place-test.true (sym c.stood_before.ensures ∙ c.if-stood_before.true), c.loop-place-test.true)
 
-pub loop-k-preserved : goal.loop-k-preserved
-loop-k-preserved c = let a = c.args in (search rules, repeat_on _ a.s.now a.n c.loop-k.k c.loop-k.invariant.1 c.loop-k-test.true (sym c.stood_before.ensures ∙ c.if-stood_before.false))
+pub loop-place-preserved : goal.loop-place-preserved
+loop-place-preserved c =
+    let r = c.args.listing.now.records in
+    repeat_on (sub_of r.sub) r.message.now r.count c.loop-place.place c.loop-place.invariant c.loop-place-test.true (sym c.stood_before.ensures ∙ c.if-stood_before.false)
 
 pub returns : goal.returns
-returns c = let a = c.args in repeat_ends _ a.s.now a.n c.loop-k.k c.loop-k.invariant.1 c.loop-k-test.false
+returns c =
+    let r = c.args.listing.now.records in
+    repeat_ends (sub_of r.sub) r.message.now r.count c.loop-place.place c.loop-place.invariant c.loop-place-test.false c.loop-place.auto.place-end

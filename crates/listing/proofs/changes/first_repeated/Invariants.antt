@@ -1,11 +1,7 @@
--- `listing::changes::first_repeated` meets its contract: the codes of the first k records didn't stand before, and what is told from there on is what is told.
-use Prim.Native.Nat.{◌-◌, ◌≤◌}
+-- `first_repeated` meets its contract: the codes of the first records didn't stand before, and what is told from there on is what is told.
 use Rattle.paper.proofs.Repeats.{Repeating}
-use Rattle.listing.specs.Listing.{sub_of, records_of}
+use Rattle.listing.specs.Searchable.{searched}
 use Rattle.listing.proofs.changes.first_repeated.Given as goal
 
-abbrev pub invariant-loop-k : goal.invariant-loop-k
-invariant-loop-k l = (l.k ≤ l.n) × Repeating (records_of (sub_of l.sub) l.n l.s) l.k
-
-abbrev pub decreases-loop-k : goal.decreases-loop-k
-decreases-loop-k l = l.n - l.k
+abbrev pub invariant-loop-place : goal.invariant-loop-place
+invariant-loop-place l = Repeating (searched l.listing) l.place

@@ -1,33 +1,26 @@
--- `listing::changes::listing_changes` meets its contract: the first listing's refusals, the second's, and else the list that is put.
+-- `listing_changes` meets its contract: the first listing's refusals, the second's, and else the list that is put.
 use mathlib.Core.Path.{sym, ap, ◌∙◌}
-use Rattle.listing.specs.Listing.{head_said}
-use Rattle.listing.specs.Changes.{refused_one}
-use Rattle.listing.proofs.Reading.{held, refused-head}
-use Rattle.listing.proofs.Comparing.{holds_once, first_said, second-said, both-said}
+use Rattle.std.proofs.lemmas.Result.{err_from_is_err_and}
+use Rattle.listing.specs.Searchable.{searched_said}
+use Rattle.listing.specs.declared.changes.ChangesRefusal.TheVariants.{First, Second}
+use Rattle.listing.proofs.Compared.{mapped_ok, mapped_err, first_said, second-said, both-said}
 use Rattle.listing.proofs.changes.listing_changes.Goals as goal
 
-pub returns-in_default : goal.returns-in_default
-returns-in_default c =
-    let told = c.in_default.is in
-    first_said _ _ _ _ _ (refused-head _ (ap head_said (sym told) ∙ c.read_once-old.ensures)) (c.refused_one.ensures ∙ ap (refused_one 1) told)
+pub returns-in_err-old : goal.returns-in_err-old
+returns-in_err-old c =
+    let p = err_from_is_err_and c.from_residual.result c.from_residual.ensures.1 in
+    let (e, told, is) = mapped_err First c.once.result c.map_err.ensures.cases c.in_err-old.was in
+    rw (p.1, p.2, is) (first_said _ _ _ _ _ (sym (ap searched_said told) ∙ c.once.ensures))
 
-pub returns-in_default-new : goal.returns-in_default-new
-returns-in_default-new c =
-    let a = c.args in
-    let told = c.in_default-new.is in
-    let read = holds_once _ a.first.now (ap head_said (sym c.in-Accepted.is) ∙ c.read_once-old.ensures) in
-    second-said _ _ _ _ _ read.1 (refused-head _ (ap head_said (sym told) ∙ c.read_once-new.ensures)) (c.refused_one-in_default-new.ensures ∙ ap (refused_one 2) told)
-
-pub put_changes-written-requires : goal.put_changes-written-requires
-put_changes-written-requires c =
-    let a = c.args in
-    let read = holds_once _ a.first.now (ap head_said (sym c.in-Accepted.is) ∙ c.read_once-old.ensures) in
-    let then = holds_once _ a.second.now (ap head_said (sym c.in-Accepted-new.is) ∙ c.read_once-new.ensures) in
-    (held read.0, held then.0)
+pub returns-in_err-new : goal.returns-in_err-new
+returns-in_err-new c =
+    let p = err_from_is_err_and c.from_residual-in_err-new.result c.from_residual-in_err-new.ensures.1 in
+    let (e, told, is) = mapped_err Second c.once-2.result c.map_err-2.ensures.cases c.in_err-new.was in
+    let first = sym (ap searched_said (mapped_ok First c.once.result c.map_err.ensures.cases c.in_ok-old.was)) ∙ c.once.ensures in
+    rw (p.1, p.2, is) (second-said _ _ _ _ _ first (sym (ap searched_said told) ∙ c.once-2.ensures))
 
 pub returns : goal.returns
 returns c =
-    let a = c.args in
-    let read = holds_once _ a.first.now (ap head_said (sym c.in-Accepted.is) ∙ c.read_once-old.ensures) in
-    let then = holds_once _ a.second.now (ap head_said (sym c.in-Accepted-new.is) ∙ c.read_once-new.ensures) in
-    both-said _ _ _ _ _ read.1 then.1 c.put_changes-written.ensures
+    let first = sym (ap searched_said (mapped_ok First c.once.result c.map_err.ensures.cases c.in_ok-old.was)) ∙ c.once.ensures in
+    let second = sym (ap searched_said (mapped_ok Second c.once-2.result c.map_err-2.ensures.cases c.in_ok-new.was)) ∙ c.once-2.ensures in
+    both-said _ _ _ _ _ first second c.put_changes.result c.put_changes.ensures c.map_err-3.ensures.cases

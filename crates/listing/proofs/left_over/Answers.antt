@@ -1,8 +1,0 @@
--- `listing::left_over` meets its contract: the arm's sub-function has a record of that size.
-use Rattle.listing.proofs.left_over.Goals as goal
-
-pub returns-in-ByStatusMask : goal.returns-in-ByStatusMask
-returns-in-ByStatusMask c = rw c.in-ByStatusMask.is
-
-pub returns-in-BySeverityMask : goal.returns-in-BySeverityMask
-returns-in-BySeverityMask c = rw c.in-BySeverityMask.is
