@@ -2,18 +2,25 @@
 -- Assumes nothing.
 use mathlib.Core.Path.{◌≡◌, refl, sym, ap, ap₂, ◌∙◌}
 use Prim.Native.Nat.{ℕ, suc, ◌+◌, ◌-◌, ◌≤◌, ◌<◌}
+use mathlib.Core.Bool.{Bool, true, false}
 use mathlib.Core.List.{List, [], ◌∷◌}
 use native.Mathlib.Omega.{arith}
 use borrow.Author.Tests.{lt-leb, le-leb}
 use lib.ListN.{length, drop, length-drop}
-use Rattle.paper.specs.Answer.{Answer, accepted, refused, ◌leaving◌, written}
+use Rattle.std.specs.Prelude.{Option, Some, None, Ok, Err}
+use Rattle.paper.specs.Answer.{Answer, accepted, ◌leaving◌, over, written}
+use Rattle.std.specs.Int.{from_bool}
+use Rattle.paper.specs.Choice.{pick}
 use Rattle.paper.specs.Bytes.{Bytes}
 use Rattle.paper.specs.Kind.{mode_of}
 use Rattle.paper.specs.Request.{Request, after_name, write_request, request_bytes}
 use Rattle.paper.specs.Response.{Response, after_mode, write_response, response_bytes}
-use Rattle.paper.specs.ReadingProgram.{format_shown, too_long, bad, text_of}
+use Rattle.paper.specs.ReadingProgram.{format_shown, too_long, bad, ascii, text_of}
 use Rattle.paper.specs.WholeMessage.{Sort, file_request, file_response, service_byte, a_file_request, a_file_response, read_message, led}
 use Rattle.paper.specs.MessageProgram.{request_text, response_text, response_format, answer_text, message_line}
+use Rattle.io.specs.Counts.{IsPrefixLen}
+use Rattle.form.specs.Text.{Grew}
+use Rattle.form.proofs.Grown.{whole}
 use Rattle.paper.proofs.Request as request-laws
 use Rattle.paper.proofs.Response as response-laws
 use Rattle.paper.proofs.WholeMessage.{file-request-read, file-response-read, request_message_layout, response_message_layout}
@@ -30,8 +37,29 @@ use Rattle.routine_control.specs.declared.request.RoutineControlRequest.{Routine
 use Rattle.routine_control.specs.declared.response.RoutineControlResponse.{RoutineControlResponse}
 use Rattle.message.specs.Reading.{MessageRight}
 use Rattle.message.specs.declared.negative.NegativeAnswer.{NegativeAnswer}
-use Rattle.message.specs.declared.read.MessageAnswer.{MessageAnswer}
-use Rattle.message_line.specs.Text.{needed_in, request_normal, response_normal, request_line, response_line, routine_request_line, routine_response_line, negative_line}
+use Rattle.message.specs.declared.read.Message.{Message}
+use Rattle.message_line.specs.Text.{shown_of, filled_by, needed_in, request_normal, response_normal, request_line, response_line, routine_request_line, routine_response_line, negative_line}
+
+-- a line is put from the start of a buffer with room enough for it
+pub put_line : (s : List ℕ) {line old new : List ℕ} {r : ℕ} → length old ≡ 4096 → line ≡ message_line s → Grew line 200 0 old r new
+    → (r ≡ length (message_line s)) × ((new ≡ over (message_line s) old) × IsPrefixLen r new)
+put_line s room is put = rw (← is) (whole put (omega arith))
+
+-- a bit as a number
+pub bit : (b : Bool) → from_bool b ≡ pick b 1 0
+bit true = refl
+bit false = refl
+
+-- the two forms of a request's line, and those of a response's
+pub request-filled : (o : Option ℕ) (k n m l : ℕ)
+    → filled_by (ascii "request kind _ name _ format _ normal _ left _\n") (ascii "request kind _ name _ format - normal _ left _\n") k n m l o ≡ request_text (shown_of o) k n m l
+request-filled (Some f) k n m l = refl
+request-filled None k n m l = refl
+
+pub response-filled : (o : Option ℕ) (k n m l : ℕ)
+    → filled_by (ascii "response kind _ block _ format _ normal _ left _\n") (ascii "response kind _ block _ format - normal _ left _\n") k n m l o ≡ response_text (shown_of o) k n m l
+response-filled (Some f) k n m l = refl
+response-filled None k n m l = refl
 
 pub too_long_lem : (s : List ℕ) → 4096 < length s → text_of too_long ≡ message_line s
 unfolding message_line
@@ -63,24 +91,24 @@ place_length : (s : List ℕ) (p : Place) → p.start + p.len ≤ length s → l
 place_length s p h = ap Place.len (place_back s p refl h)
 
 module _ (s : List ℕ) (short : length s ≤ 4096) where
-  pub refused_line : {e : Refusal} → MessageRight s (MessageAnswer.Refused e) → text_of (bad (row e)) ≡ message_line s
+  pub refused_line : {e : Refusal} → MessageRight s (Err e) → text_of (bad (row e)) ≡ message_line s
   refused_line right = ap answer_text right.paper ∙ by_answer s short
 
-  pub negative-line : (q : NegativeAnswer) → MessageRight s (MessageAnswer.Negative q) → negative_line q ≡ message_line s
+  pub negative-line : (q : NegativeAnswer) → MessageRight s (Ok (Message.Negative q)) → negative_line q ≡ message_line s
   negative-line q right = ap answer_text right.paper ∙ by_answer s short
 
-  pub routine-request-line : (q : RoutineControlRequest) → MessageRight s (MessageAnswer.RoutineRequest q) → routine_request_line q ≡ message_line s
+  pub routine-request-line : (q : RoutineControlRequest) → MessageRight s (Ok (Message.RoutineRequest q)) → routine_request_line q ≡ message_line s
   routine-request-line q right =
       let p = right.place in
       rw (← place_length s q.option_record (omega (arith, p.0, p.1))) (ap answer_text right.paper ∙ by_answer s short)
 
-  pub routine-response-line : (q : RoutineControlResponse) → MessageRight s (MessageAnswer.RoutineResponse q) → routine_response_line q ≡ message_line s
+  pub routine-response-line : (q : RoutineControlResponse) → MessageRight s (Ok (Message.RoutineResponse q)) → routine_response_line q ≡ message_line s
   routine-response-line q right =
       let p = right.place in
       rw (← place_length s q.status_record (omega (arith, p.0, p.1))) (ap answer_text right.paper ∙ by_answer s short)
 
   module _ (bytes : Bytes s) where
-    pub request-line : (q : RequestFileTransferRequest) (tail : ℕ) → MessageRight s (MessageAnswer.FileRequest q tail) → request_line s q tail ≡ message_line s
+    pub request-line : (q : RequestFileTransferRequest) (tail : ℕ) → MessageRight s (Ok (Message.FileRequest q tail)) → request_line s q tail ≡ message_line s
     request-line q tail right =
         let m = request.meant s q in
         let p = right.place in
@@ -90,7 +118,7 @@ module _ (s : List ℕ) (short : length s ≤ 4096) where
         ap (λ (n : ℕ). request_text format (mode_of m.kind) n (request_normal s q) (length s - tail)) (sym name)
         ∙ ap₂ (λ (n l : ℕ). request_text format (mode_of m.kind) (length m.name) n l) normal (sym (length-drop tail s)) ∙ ap answer_text right.paper ∙ by_answer s short
 
-    pub response-line : (q : RequestFileTransferResponse) (tail : ℕ) → MessageRight s (MessageAnswer.FileResponse q tail) → response_line s q tail ≡ message_line s
+    pub response-line : (q : RequestFileTransferResponse) (tail : ℕ) → MessageRight s (Ok (Message.FileResponse q tail)) → response_line s q tail ≡ message_line s
     response-line q tail right =
         let m = response.meant s q in
         let p = right.place in

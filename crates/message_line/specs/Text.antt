@@ -1,6 +1,7 @@
 -- The line of each sort, from what was read of the input s.
-use Rattle.std.specs.Prelude.{ℕ, ◌-◌, List, [], length}
+use Rattle.std.specs.Prelude.{ℕ, ◌-◌, List, [], ◌∷◌, length, Option, Some, None}
 use Rattle.paper.specs.Answer.{Answer, accepted, refused, written}
+use Rattle.paper.specs.Form.{filled_in}
 use Rattle.paper.specs.Kind.{mode_of}
 use Rattle.paper.specs.Request.{after_name, write_request}
 use Rattle.paper.specs.Response.{after_mode, write_response}
@@ -19,11 +20,20 @@ use Rattle.routine_control.specs.declared.request.RoutineControlRequest.{Routine
 use Rattle.routine_control.specs.declared.response.RoutineControlResponse.{RoutineControlResponse}
 use Rattle.message.specs.Service.{service_of}
 use Rattle.message.specs.declared.negative.NegativeAnswer.{NegativeAnswer}
-use Rattle.message_line.specs.declared.transfer.Shown.{Shown}
+use Rattle.message_line.specs.declared.text.Transfer.{Transfer}
 
-abbrev pub shown_of : Shown → paper.Shown
-shown_of Shown.Dash = dash
-shown_of (Shown.Byte b) = shown b
+abbrev pub shown_of : Option ℕ → paper.Shown
+shown_of None = dash
+shown_of (Some b) = shown b
+
+-- a form with a blank for the format byte, or one with a dash there, filled in
+abbrev pub filled_by : (with_byte with_dash : List ℕ) → (kind part normal left : ℕ) → Option ℕ → List ℕ
+filled_by with_byte with_dash k p n l (Some f) = filled_in with_byte (k ∷ p ∷ f ∷ n ∷ l ∷ [])
+filled_by with_byte with_dash k p n l None = filled_in with_dash (k ∷ p ∷ n ∷ l ∷ [])
+
+-- with what a line tells
+abbrev pub transfer_text : (with_byte with_dash : List ℕ) → Transfer → List ℕ
+transfer_text with_byte with_dash t = filled_by with_byte with_dash t.kind t.part t.normal t.left t.format
 
 -- how many bytes a writer needs, by its answer about a room that has none
 abbrev pub needed_in : Answer ℕ → ℕ

@@ -1,85 +1,50 @@
 // The text of the program's line, in ASCII, ended by a line feed. Each function puts its text at the start of `out`, or after the first `at` bytes of it,
-// and answers how many bytes the text then has. `message_text` lends more room than any line needs.
+// and answers how many bytes the text then has: no library here uses a heap. `message_text` lends more room than any line needs.
 ghost use Rattle.std.specs.Prelude.{◌≡◌, ◌≤◌, length};
 ghost use Rattle.io.specs.Counts.{IsPrefixLen};
-ghost use Rattle.paper.specs.Choice.{pick};
 ghost use Rattle.paper.specs.Answer.{over};
-ghost use Rattle.paper.specs.MessageProgram.{request_text, response_text, mark, message_line};
+ghost use Rattle.paper.specs.MessageProgram.{mark, message_line};
 ghost use Rattle.form.specs.Text.{Grew};
-ghost use Rattle.message_line.specs.Text.{shown_of, request_line, response_line, routine_request_line, routine_response_line, negative_line};
+ghost use Rattle.message_line.specs.Text.{transfer_text, request_line, response_line, routine_request_line, routine_response_line, negative_line};
 
-use crate::transfer::{Shown, request_format, request_normal, response_format, response_normal};
+use crate::transfer::{request_format, request_normal, response_format, response_normal};
 use ascii_text::put_refused;
 use form::{put, put_form, put_hex};
 use message::negative::NegativeAnswer;
-use message::read::{MessageAnswer, read_message};
+use message::read::{Message, read_message};
 use request_file_transfer::read::RequestFileTransferRequest;
 use request_file_transfer_response::read::RequestFileTransferResponse;
 use routine_control::request::RoutineControlRequest;
 use routine_control::response::RoutineControlResponse;
 use wire::write::put_bytes;
 
-fn put_request(
+// What the line of a file transfer message tells: `part` is the length of its name or block length, `normal` that of the message written anew,
+// and `left` counts the bytes behind the message.
+#[derive(Clone, Copy)]
+struct Transfer {
     kind: u8,
-    name: usize,
-    format: Shown,
+    part: usize,
+    format: Option<u8>,
     normal: u64,
     left: usize,
-    out: &mut [u8],
-) -> usize
-    ensures { Grew (request_text (shown_of format) kind name normal left) 200 0 out.old result out.new }
-{
-    match format {
-        Shown::Dash => {
-            let numbers = [kind as u64, name as u64, normal, left as u64];
-            put_form(
-                b"request kind _ name _ format - normal _ left _\n",
-                &numbers,
-                out,
-                0,
-            )
-        }
-        Shown::Byte(f) => {
-            let numbers = [kind as u64, name as u64, f as u64, normal, left as u64];
-            put_form(
-                b"request kind _ name _ format _ normal _ left _\n",
-                &numbers,
-                out,
-                0,
-            )
-        }
-    }
 }
 
-fn put_response(
-    kind: u8,
-    block: usize,
-    format: Shown,
-    normal: u64,
-    left: usize,
-    out: &mut [u8],
-) -> usize
-    ensures { Grew (response_text (shown_of format) kind block normal left) 200 0 out.old result out.new }
+// `with_byte` is the line's form where there is a format byte, `with_dash` where there is none.
+fn put_transfer(with_byte: &[u8], with_dash: &[u8], line: Transfer, out: &mut [u8]) -> usize
+    requires { (length with_byte.now ≤ 100) × (length with_dash.now ≤ 100) }
+    ensures { Grew (transfer_text with_byte.now with_dash.now line) 200 0 out.old result out.new }
 {
-    match format {
-        Shown::Dash => {
-            let numbers = [kind as u64, block as u64, normal, left as u64];
-            put_form(
-                b"response kind _ block _ format - normal _ left _\n",
-                &numbers,
-                out,
-                0,
-            )
-        }
-        Shown::Byte(f) => {
-            let numbers = [kind as u64, block as u64, f as u64, normal, left as u64];
-            put_form(
-                b"response kind _ block _ format _ normal _ left _\n",
-                &numbers,
-                out,
-                0,
-            )
-        }
+    let kind = u64::from(line.kind);
+    let part = line.part as u64;
+    let left = line.left as u64;
+    match line.format {
+        Some(f) => put_form(
+            with_byte,
+            &[kind, part, u64::from(f), line.normal, left],
+            out,
+            0,
+        ),
+        None => put_form(with_dash, &[kind, part, line.normal, left], out, 0),
     }
 }
 
@@ -87,16 +52,17 @@ fn file_request(input: &[u8], q: RequestFileTransferRequest, tail: usize, out: &
     requires { tail ≤ length input.now }
     ensures { Grew (request_line input.now q tail) 200 0 out.old result out.new }
 {
-    let kind = q.kind;
-    let place = q.file_path_and_name;
-    let format = request_format(kind, q.data_format_identifier);
-    let normal = request_normal(input, q);
-    put_request(
-        kind.value(),
-        place.len,
-        format,
-        normal,
-        input.len() - tail,
+    let line = Transfer {
+        kind: q.kind.value(),
+        part: q.file_path_and_name.len,
+        format: request_format(q.kind, q.data_format_identifier),
+        normal: request_normal(input, q),
+        left: input.len() - tail,
+    };
+    put_transfer(
+        b"request kind _ name _ format _ normal _ left _\n",
+        b"request kind _ name _ format - normal _ left _\n",
+        line,
         out,
     )
 }
@@ -105,37 +71,29 @@ fn file_response(input: &[u8], q: RequestFileTransferResponse, tail: usize, out:
     requires { tail ≤ length input.now }
     ensures { Grew (response_line input.now q tail) 200 0 out.old result out.new }
 {
-    let kind = q.kind;
-    let place = q.max_number_of_block_length;
-    let format = response_format(kind, q.data_format_identifier);
-    let normal = response_normal(input, q);
-    put_response(
-        kind.value(),
-        place.len,
-        format,
-        normal,
-        input.len() - tail,
+    let line = Transfer {
+        kind: q.kind.value(),
+        part: q.max_number_of_block_length.len,
+        format: response_format(q.kind, q.data_format_identifier),
+        normal: response_normal(input, q),
+        left: input.len() - tail,
+    };
+    put_transfer(
+        b"response kind _ block _ format _ normal _ left _\n",
+        b"response kind _ block _ format - normal _ left _\n",
+        line,
         out,
     )
-}
-
-fn bit(b: bool) -> u64
-    ensures { result ≡ pick b 1 0 }
-{
-    if b { 1 } else { 0 }
 }
 
 fn routine_request(q: RoutineControlRequest, out: &mut [u8]) -> usize
     ensures { Grew (routine_request_line q) 200 0 out.old result out.new }
 {
-    let sub_function = q.sub_function;
-    let place = q.option_record;
-    let suppress = bit(q.suppress_positive_response);
     let numbers = [
-        sub_function.value() as u64,
-        suppress,
-        q.routine_id as u64,
-        place.len as u64,
+        u64::from(q.sub_function.value()),
+        u64::from(q.suppress_positive_response),
+        u64::from(q.routine_id),
+        q.option_record.len as u64,
     ];
     put_form(
         b"routine request sub-function _ suppress _ identifier _ record _\n",
@@ -148,12 +106,10 @@ fn routine_request(q: RoutineControlRequest, out: &mut [u8]) -> usize
 fn routine_response(q: RoutineControlResponse, out: &mut [u8]) -> usize
     ensures { Grew (routine_response_line q) 200 0 out.old result out.new }
 {
-    let sub_function = q.sub_function;
-    let place = q.status_record;
     let numbers = [
-        sub_function.value() as u64,
-        q.routine_id as u64,
-        place.len as u64,
+        u64::from(q.sub_function.value()),
+        u64::from(q.routine_id),
+        q.status_record.len as u64,
     ];
     put_form(
         b"routine response sub-function _ identifier _ record _\n",
@@ -176,9 +132,8 @@ fn put_mark(listed: bool, out: &mut [u8], at: usize) -> usize
 fn negative(q: NegativeAnswer, out: &mut [u8]) -> usize
     ensures { Grew (negative_line q) 200 0 out.old result out.new }
 {
-    let service = q.service;
     let a = put(b"negative 0x", out, 0);
-    let b = put_hex(service.value(), out, a);
+    let b = put_hex(q.service.value(), out, a);
     let c = put(b" 0x", out, b);
     let d = put_hex(q.code, out, c);
     put_mark(q.listed, out, d)
@@ -192,15 +147,15 @@ pub fn message_text(input: &[u8], out: &mut [u8; 4096]) -> usize
     ensures prefix_len { IsPrefixLen result out.new }
 {
     if 4096 < input.len() {
-        put_bytes(b"too long\n", out);
+        let _ = put_bytes(b"too long\n", out);
         return 9;
     }
     match read_message(input) {
-        MessageAnswer::FileRequest(q, tail) => file_request(input, q, tail, out),
-        MessageAnswer::RoutineRequest(q) => routine_request(q, out),
-        MessageAnswer::FileResponse(q, tail) => file_response(input, q, tail, out),
-        MessageAnswer::RoutineResponse(q) => routine_response(q, out),
-        MessageAnswer::Negative(q) => negative(q, out),
-        MessageAnswer::Refused(e) => put_refused(e, out),
+        Ok(Message::FileRequest(q, tail)) => file_request(input, q, tail, out),
+        Ok(Message::RoutineRequest(q)) => routine_request(q, out),
+        Ok(Message::FileResponse(q, tail)) => file_response(input, q, tail, out),
+        Ok(Message::RoutineResponse(q)) => routine_response(q, out),
+        Ok(Message::Negative(q)) => negative(q, out),
+        Err(e) => put_refused(e, out),
     }
 }

@@ -2,8 +2,9 @@
 use mathlib.Core.Path.{refl}
 use lib.Dec.{lit≤}
 use Rattle.form.proofs.Grown.{put_as}
+use Rattle.message_line.proofs.Lines.{bit}
 use Rattle.message_line.proofs.text.routine_request.Goals as goal
 
 pub returns : goal.returns
 returns c =
-    rw (← c.value.ensures, ← c.bit-suppress.ensures) (put_as c.put_form.ensures refl (lit≤ tt))
+    put_as (rw (c.from.ensures, c.value.ensures, c.from-2.ensures, bit c.args.q.suppress_positive_response, c.from-3.ensures) at c.put_form.ensures) refl (lit≤ tt)

@@ -5,5 +5,4 @@ use Rattle.form.proofs.Grown.{put_as}
 use Rattle.message_line.proofs.text.routine_response.Goals as goal
 
 pub returns : goal.returns
-returns c =
-    rw (← c.value.ensures) (put_as c.put_form.ensures refl (lit≤ tt))
+returns c = put_as (rw (c.from.ensures, c.value.ensures, c.from-2.ensures) at c.put_form.ensures) refl (lit≤ tt)
