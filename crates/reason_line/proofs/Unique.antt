@@ -8,9 +8,9 @@ use lib.ListN.{length}
 use Rattle.wire.proofs.Unique.{Determined}
 use Rattle.wire.proofs.UniqueWriting.{WritesOnce}
 use Rattle.reason.proofs.Unique.{answer_once}
+use Rattle.std.specs.Prelude.{Option, Some, None}
 use Rattle.reason_line.specs.Sort.{sort_said, NamedRight}
 use Rattle.reason_line.specs.declared.sort.Sort.{Sort}
-use Rattle.reason_line.specs.declared.sort.SortAnswer.{SortAnswer}
 use Rattle.reason_line.proofs.room.Kinds as room-kinds
 use Rattle.reason_line.proofs.room.Reads as room
 use Rattle.reason_line.proofs.sort.sort_named.Kinds as sort-named-kinds
@@ -26,14 +26,14 @@ pub room_determined : Determined 0 room-kinds.ps room-kinds.r room.Post
 room_determined κs a x y r₁ r₂ p q = p.1 ∙ sym q.1
 
 -- the two words differ in length
-named_once : (word : List ℕ) (r₁ r₂ : SortAnswer) → NamedRight word r₁ → NamedRight word r₂ → r₁ ≡ r₂
-named_once word (SortAnswer.Named Sort.Request) (SortAnswer.Named Sort.Request) p q = refl
-named_once word (SortAnswer.Named Sort.Request) (SortAnswer.Named Sort.Response) p q = let e : ◌≡◌ {A = ℕ} 7 8 = ap length (sym p ∙ q) in absurd (omega arith)
-named_once word (SortAnswer.Named Sort.Response) (SortAnswer.Named Sort.Request) p q = let e : ◌≡◌ {A = ℕ} 8 7 = ap length (sym p ∙ q) in absurd (omega arith)
-named_once word (SortAnswer.Named Sort.Response) (SortAnswer.Named Sort.Response) p q = refl
-named_once word (SortAnswer.Named sort) SortAnswer.Unknown p q = absurd (q (sort_said sort) p)
-named_once word SortAnswer.Unknown (SortAnswer.Named sort) p q = absurd (p (sort_said sort) q)
-named_once word SortAnswer.Unknown SortAnswer.Unknown p q = refl
+named_once : (word : List ℕ) (r₁ r₂ : Option Sort) → NamedRight word r₁ → NamedRight word r₂ → r₁ ≡ r₂
+named_once word (Some Sort.Request) (Some Sort.Request) p q = refl
+named_once word (Some Sort.Request) (Some Sort.Response) p q = let e : ◌≡◌ {A = ℕ} 7 8 = ap length (sym p ∙ q) in absurd (omega arith)
+named_once word (Some Sort.Response) (Some Sort.Request) p q = let e : ◌≡◌ {A = ℕ} 8 7 = ap length (sym p ∙ q) in absurd (omega arith)
+named_once word (Some Sort.Response) (Some Sort.Response) p q = refl
+named_once word (Some sort) None p q = absurd (q (sort_said sort) p)
+named_once word None (Some sort) p q = absurd (p (sort_said sort) q)
+named_once word None None p q = refl
 
 pub sort_named_determined : Determined 1 sort-named-kinds.ps sort-named-kinds.r sort-named.Post
 sort_named_determined κs a x y r₁ r₂ p q = named_once _ r₁ r₂ p q

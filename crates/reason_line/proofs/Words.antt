@@ -1,24 +1,24 @@
 -- The words of the program's line put together, and the words that its argument can be.
 -- Assumes nothing.
-use mathlib.Core.Path.{◌≡◌, sym, ap, ◌∙◌}
-use Prim.Native.Nat.{ℕ, ◌≤◌, ◌<◌}
-use mathlib.Core.Bool.{Bool, true, false}
+use mathlib.Core.Path.{◌≡◌, ap, ◌∙◌}
+use Prim.Native.Nat.{ℕ, ◌+◌, ◌≤◌, ◌<◌}
 use mathlib.Core.List.{List, ◌++◌, append_assoc}
+use native.Mathlib.Omega.{arith}
 use borrow.Author.Tests.{lt-leb, le-leb}
 use lib.ListN.{length}
 use Rattle.paper.specs.Answer.{Refusal}
 use Rattle.paper.specs.ReadingProgram.{decimal, ascii, text_of, too_long}
 use Rattle.paper.specs.Reason.{Field, field_of, Fault, Check, Verdict, stops, first_failed}
 use Rattle.paper.specs.WhyProgram.{called, sentence, refused_text, why_text, why_line, Sort, request, response, word_of}
-use Rattle.paper.proofs.Reason.{apart}
-use Rattle.reason_line.specs.Text.{place_text, end_text}
+use Rattle.ascii_text.specs.Text.{Laid, Put, field}
+use Rattle.ascii_text.proofs.Laid.{field-short, put-laid, put_as}
+use Rattle.reason_line.specs.Text.{place_words, place_text, end_text}
 
 -- ---- the argument
 -- a word that is neither sort's
-pub no_word : {word : List ℕ} {a b : Bool} → (word ≡ ascii "request" → a ≡ true) → a ≡ false → (word ≡ ascii "response" → b ≡ true) → b ≡ false
-    → (sort : Sort) → word ≡ ascii (word_of sort) → ⊥
-no_word e f g h request is = apart (sym f ∙ e is)
-no_word e f g h response is = apart (sym h ∙ g is)
+pub no_word : {word : List ℕ} → (word ≡ ascii "request" → ⊥) → (word ≡ ascii "response" → ⊥) → (sort : Sort) → word ≡ ascii (word_of sort) → ⊥
+no_word f g request is = f is
+no_word f g response is = g is
 
 -- ---- the line
 six : (a b c d e f : List ℕ) → ((a ++ b) ++ (c ++ d)) ++ (e ++ f) ≡ a ++ (b ++ (c ++ (d ++ (e ++ f))))
@@ -31,6 +31,11 @@ refusal_is {r} e f g = rw (e, f, g) (six (ascii "refused ") (decimal r.number) (
 
 eight : (a b c d e f g h : List ℕ) → (a ++ ((b ++ (c ++ d)) ++ e)) ++ (f ++ (g ++ h)) ≡ a ++ (b ++ (c ++ (d ++ (e ++ (f ++ (g ++ h))))))
 eight a b c d e f g h = simp append_assoc
+
+-- a field's words are put, and its offset after them
+pub place_put : {words : List ℕ} (g : Field) (o : ℕ) {n : ℕ} {old new : List ℕ} → Laid (field words o) n old new → n ≤ length words + 20 → words ≡ place_words g → length words ≤ 18
+    → Put (place_text g o) n 38 old new
+place_put {words} g o laid most is short = put_as (put-laid laid most) (field-short words o (omega arith) ∙ ap (λ (w : List ℕ). w ++ decimal o) is) (omega arith)
 
 -- the refusal, the field with its offset, and the sentence are the text of a reason
 pub reason-is : (f : Fault) (o : ℕ) (r : Refusal) {g : Field} → g ≡ field_of f → (refused_text r ++ place_text g o) ++ end_text f ≡ why_text (stops f o r)

@@ -5,38 +5,31 @@ ghost use Rattle.paper.specs.WhyProgram.{checks_of};
 ghost use Rattle.reason.specs.Reason.{why_said};
 ghost use Rattle.reason_line.specs.Sort.{sort_said, NamedRight};
 
-use check::same;
-use reason::reason::ReasonAnswer;
+use reason::reason::Reason;
 use reason::request::why_request;
 use reason::response::why_response;
 
-#[derive(Clone, Copy)]
+#[derive(Clone, Copy, Debug, PartialEq, Eq)]
 pub enum Sort {
     Request,
     Response,
 }
 
-#[derive(Clone, Copy)]
-pub enum SortAnswer {
-    Named(Sort),
-    Unknown,
-}
-
 // The sort that a word names: `request` or `response`, and no other word.
-pub fn sort_named(word: &[u8]) -> SortAnswer
+pub fn sort_named(word: &[u8]) -> Option<Sort>
     ensures { NamedRight word.now result }
 {
-    if same(word, b"request") {
-        return SortAnswer::Named(Sort::Request);
+    if word == b"request".as_slice() {
+        return Some(Sort::Request);
     }
-    if same(word, b"response") {
-        return SortAnswer::Named(Sort::Response);
+    if word == b"response".as_slice() {
+        return Some(Sort::Response);
     }
-    SortAnswer::Unknown
+    None
 }
 
 // Why a message of this sort is refused.
-pub fn why(sort: Sort, message: &[u8]) -> ReasonAnswer
+pub fn why(sort: Sort, message: &[u8]) -> Result<(), Reason>
     ensures { why_said result ≡ first_failed (checks_of (sort_said sort)) message.now }
 {
     match sort {

@@ -8,18 +8,18 @@ ghost use Rattle.wire.specs.Refusals.{row};
 ghost use Rattle.ascii_text.specs.Text.{Put};
 ghost use Rattle.reason.specs.Reason.{field_said, fault_said, why_stops};
 ghost use Rattle.reason_line.specs.Sort.{sort_said};
-ghost use Rattle.reason_line.specs.Text.{place_text, end_text};
+ghost use Rattle.reason_line.specs.Text.{place_words, end_text};
 
 use crate::sort::{Sort, why};
 use ascii_text::put_field;
-use reason::reason::{Fault, Field, Reason, ReasonAnswer};
+use reason::reason::{Fault, Field, Reason};
 use wire::refusal::Refusal;
 use wire::write::put_bytes;
 
 fn put_word(word: &[u8], out: &mut [u8]) -> usize
     ensures { Put word.now result (length word.now) out.old out.new }
 {
-    put_bytes(word, out);
+    let _ = put_bytes(word, out);
     word.len()
 }
 
@@ -33,53 +33,39 @@ fn put_refusal(refusal: Refusal, out: &mut [u8]) -> usize
     b + put_field(b" ", refusal.second() as u64, &mut out[b..])
 }
 
-// `: FIELD at OFFSET`.
-fn put_place(field: Field, offset: usize, out: &mut [u8]) -> usize
-    ensures { Put (place_text (field_said field) offset) result 38 out.old out.new }
+// `: FIELD at `.
+fn place_words(field: Field) -> &'static [u8]
+    ensures words { result.now ≡ place_words (field_said field) }
+    ensures short { length result.now ≤ 18 }
 {
-    let n = offset as u64;
     match field {
-        Field::Mode => put_field(b": mode at ", n, out),
-        Field::Name => put_field(b": name at ", n, out),
-        Field::FormatByte => put_field(b": format byte at ", n, out),
-        Field::SizeGroup => put_field(b": size group at ", n, out),
-        Field::BlockLength => put_field(b": block length at ", n, out),
-        Field::Position => put_field(b": position at ", n, out),
+        Field::Mode => b": mode at ",
+        Field::Name => b": name at ",
+        Field::FormatByte => b": format byte at ",
+        Field::SizeGroup => b": size group at ",
+        Field::BlockLength => b": block length at ",
+        Field::Position => b": position at ",
     }
 }
 
 // `: SENTENCE` and the line feed. The sentence is fixed for each check.
-fn put_end(fault: Fault, out: &mut [u8]) -> usize
-    ensures { Put (end_text (fault_said fault)) result 64 out.old out.new }
+fn end_words(fault: Fault) -> &'static [u8]
+    ensures words { result.now ≡ end_text (fault_said fault) }
+    ensures short { length result.now ≤ 64 }
 {
     match fault {
-        Fault::NoMode => put_word(b": the message is empty\n", out),
-        Fault::NoNameLength => {
-            put_word(
-                b": the message ends before it says how long the name is\n",
-                out,
-            )
-        }
-        Fault::CutName => put_word(b": the message ends inside the name\n", out),
-        Fault::NotUtf8 => put_word(b": the name is not UTF-8\n", out),
-        Fault::NoSuchMode => put_word(b": no file operation has this number\n", out),
-        Fault::NoFormat => put_word(b": the message ends before the format byte\n", out),
-        Fault::NoWidth => {
-            put_word(
-                b": the message ends before it says how wide the sizes are\n",
-                out,
-            )
-        }
-        Fault::CutSizes => put_word(b": the message ends inside the sizes\n", out),
-        Fault::WrongWidth => put_word(b": a size is 1 to 16 bytes wide\n", out),
-        Fault::NoCount => {
-            put_word(
-                b": the message ends before it says how long the block length is\n",
-                out,
-            )
-        }
-        Fault::CutBlock => put_word(b": the message ends inside the block length\n", out),
-        Fault::CutPosition => put_word(b": the message ends inside the position\n", out),
+        Fault::NoMode => b": the message is empty\n",
+        Fault::NoNameLength => b": the message ends before it says how long the name is\n",
+        Fault::CutName => b": the message ends inside the name\n",
+        Fault::NotUtf8 => b": the name is not UTF-8\n",
+        Fault::NoSuchMode => b": no file operation has this number\n",
+        Fault::NoFormat => b": the message ends before the format byte\n",
+        Fault::NoWidth => b": the message ends before it says how wide the sizes are\n",
+        Fault::CutSizes => b": the message ends inside the sizes\n",
+        Fault::WrongWidth => b": a size is 1 to 16 bytes wide\n",
+        Fault::NoCount => b": the message ends before it says how long the block length is\n",
+        Fault::CutBlock => b": the message ends inside the block length\n",
+        Fault::CutPosition => b": the message ends inside the position\n",
     }
 }
 
@@ -87,11 +73,9 @@ fn put_reason(x: Reason, out: &mut [u8]) -> usize
     requires { 172 ≤ length out.old }
     ensures { Put (why_text (why_stops x.fault x.offset x.refusal)) result 172 out.old out.new }
 {
-    let fault = x.fault;
-    let refusal = x.refusal;
-    let a = put_refusal(refusal, out);
-    let b = a + put_place(fault.field(), x.offset, &mut out[a..]);
-    b + put_end(fault, &mut out[b..])
+    let a = put_refusal(x.refusal, out);
+    let b = a + put_field(place_words(x.fault.field()), x.offset as u64, &mut out[a..]);
+    b + put_word(end_words(x.fault), &mut out[b..])
 }
 
 // The text of the line about an input, from the start of `out`: all that the program prints of it. How many bytes it has.
@@ -105,8 +89,8 @@ pub fn why_text(sort: Sort, input: &[u8], out: &mut [u8; 4096]) -> usize
         return put_word(b"too long\n", out);
     }
     match why(sort, input) {
-        ReasonAnswer::Accepted => put_word(b"accepted\n", out),
-        ReasonAnswer::Refused(x) => put_reason(x, out),
+        Ok(()) => put_word(b"accepted\n", out),
+        Err(x) => put_reason(x, out),
     }
 }
 
