@@ -1,7 +1,7 @@
 // Constants and tables: the letters p and r.
 ghost use Rattle.io.specs.Counts.{IsPrefixLen};
 
-use dtc::status::{DtcRecord, DtcSeverityMask, DtcStatusMask};
+use dtc::status::{DtcRecord, DtcSeverityMask, DtcStatusMask, Mask};
 use oracle_text::text::{put_hex, put_numbers};
 use routine_control::nack::{
     request_file_transfer_allowed_nack_codes, routine_control_allowed_nack_codes,
@@ -13,47 +13,42 @@ fn put_code_constants(out: &mut [u8], at: usize) -> usize
 {
     let all = DtcRecord::CLEAR_ALL_DTCS;
     let numbers = [
-        all.high_byte() as u64,
-        all.middle_byte() as u64,
-        all.low_byte() as u64,
+        u64::from(all.high_byte()),
+        u64::from(all.middle_byte()),
+        u64::from(all.low_byte()),
         DtcRecord::WIRE_SIZE as u64,
     ];
     put_numbers(&numbers, out, at)
 }
 
-// The named bits of the status mask.
-fn put_status_names(out: &mut [u8], at: usize) -> usize
+// The bits of eight masks.
+fn put_named<Names>(named: [Mask<Names>; 8], out: &mut [u8], at: usize) -> usize
     ensures { IsPrefixLen result out.new }
 {
-    let numbers = [
-        DtcStatusMask::TestFailed.bits() as u64,
-        DtcStatusMask::TestFailedThisOperationCycle.bits() as u64,
-        DtcStatusMask::PendingDtc.bits() as u64,
-        DtcStatusMask::ConfirmedDtc.bits() as u64,
-        DtcStatusMask::TestNotCompletedSinceLastClear.bits() as u64,
-        DtcStatusMask::TestFailedSinceLastClear.bits() as u64,
-        DtcStatusMask::TestNotCompletedThisOperationCycle.bits() as u64,
-        DtcStatusMask::WarningIndicatorRequested.bits() as u64,
-    ];
-    put_numbers(&numbers, out, at)
+    put_numbers(&named.map(|mask| u64::from(mask.bits())), out, at)
 }
 
-// The named bits of the severity mask.
-fn put_severity_names(out: &mut [u8], at: usize) -> usize
-    ensures { IsPrefixLen result out.new }
-{
-    let numbers = [
-        DtcSeverityMask::DtcClass0.bits() as u64,
-        DtcSeverityMask::DtcClass1.bits() as u64,
-        DtcSeverityMask::DtcClass2.bits() as u64,
-        DtcSeverityMask::DtcClass3.bits() as u64,
-        DtcSeverityMask::DtcClass4.bits() as u64,
-        DtcSeverityMask::MaintenanceOnly.bits() as u64,
-        DtcSeverityMask::CheckAtNextHalt.bits() as u64,
-        DtcSeverityMask::CheckImmediately.bits() as u64,
-    ];
-    put_numbers(&numbers, out, at)
-}
+const STATUS_NAMES: [DtcStatusMask; 8] = [
+    DtcStatusMask::TestFailed,
+    DtcStatusMask::TestFailedThisOperationCycle,
+    DtcStatusMask::PendingDtc,
+    DtcStatusMask::ConfirmedDtc,
+    DtcStatusMask::TestNotCompletedSinceLastClear,
+    DtcStatusMask::TestFailedSinceLastClear,
+    DtcStatusMask::TestNotCompletedThisOperationCycle,
+    DtcStatusMask::WarningIndicatorRequested,
+];
+
+const SEVERITY_NAMES: [DtcSeverityMask; 8] = [
+    DtcSeverityMask::DtcClass0,
+    DtcSeverityMask::DtcClass1,
+    DtcSeverityMask::DtcClass2,
+    DtcSeverityMask::DtcClass3,
+    DtcSeverityMask::DtcClass4,
+    DtcSeverityMask::MaintenanceOnly,
+    DtcSeverityMask::CheckAtNextHalt,
+    DtcSeverityMask::CheckImmediately,
+];
 
 // Of trouble codes by 0, of the status mask by 1, of the severity mask by 2.
 pub(crate) fn put_constants(b: u8, out: &mut [u8], at: usize) -> usize
@@ -61,8 +56,8 @@ pub(crate) fn put_constants(b: u8, out: &mut [u8], at: usize) -> usize
 {
     match b {
         0 => put_code_constants(out, at),
-        1 => put_status_names(out, at),
-        2 => put_severity_names(out, at),
+        1 => put_named(STATUS_NAMES, out, at),
+        2 => put_named(SEVERITY_NAMES, out, at),
         _ => 0,
     }
 }

@@ -10,22 +10,22 @@ mod named;
 ghost use Rattle.io.specs.Counts.{IsPrefixLen};
 
 use crate::constants::{put_constants, put_negative_codes};
-use crate::mask::{put_matching, put_severity, put_severity_joined, put_status, put_status_joined};
+use crate::mask::{put_joined, put_matching, put_severity, put_status};
 use crate::named::{put_format, put_group, put_record_number, put_sub_function};
+use dtc::status::{DtcSeverityMask, DtcStatusMask};
 
 // The answer to the call that the letter stands for, after the first `at` bytes of the text.
 pub fn put_answer(letter: u8, input: &[u8], out: &mut [u8], at: usize) -> usize
     ensures { IsPrefixLen result out.new }
 {
-    if input.len() != 1 {
+    let &[b] = input else {
         return 0;
-    }
-    let b = input[0];
+    };
     match letter {
         b'a' => put_status(b, out, at),
         b'b' => put_severity(b, out, at),
-        b'c' => put_status_joined(b, out, at),
-        b'd' => put_severity_joined(b, out, at),
+        b'c' => put_joined(DtcStatusMask::from_bits(b), out, at),
+        b'd' => put_joined(DtcSeverityMask::from_bits(b), out, at),
         b'e' => put_matching(b, out, at),
         b'f' => put_format(b, out, at),
         b'g' => put_group(b, out, at),

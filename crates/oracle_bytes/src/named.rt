@@ -2,15 +2,15 @@
 ghost use Rattle.io.specs.Counts.{IsPrefixLen};
 
 use dtc::status::{DtcFormatIdentifier, DtcStoredDataRecordNumber, FunctionalGroupIdentifier};
-use oracle_text::answer::{flag, put_refused};
+use oracle_text::answer::put_refused;
 use oracle_text::text::put_numbers;
-use routine_control::sub_function::{RoutineControlSubFunction, SubFunctionAnswer};
+use routine_control::sub_function::RoutineControlSubFunction;
 
 // Which format it is, counted from 0 in the order of the original's names, and its byte.
 pub(crate) fn put_format(b: u8, out: &mut [u8], at: usize) -> usize
     ensures { IsPrefixLen result out.new }
 {
-    let f = DtcFormatIdentifier::from_byte(b);
+    let f = DtcFormatIdentifier::from(b);
     let name = match f {
         DtcFormatIdentifier::SaeJ2012DaDtcFormat00 => 0,
         DtcFormatIdentifier::Iso14229_1DtcFormat => 1,
@@ -19,15 +19,14 @@ pub(crate) fn put_format(b: u8, out: &mut [u8], at: usize) -> usize
         DtcFormatIdentifier::SaeJ2012DaDtcFormat04 => 4,
         DtcFormatIdentifier::IsoSaeReserved(_) => 5,
     };
-    let numbers = [name, f.value() as u64];
-    put_numbers(&numbers, out, at)
+    put_numbers(&[name, u64::from(u8::from(f))], out, at)
 }
 
 // Which group it is, likewise, and its byte.
 pub(crate) fn put_group(b: u8, out: &mut [u8], at: usize) -> usize
     ensures { IsPrefixLen result out.new }
 {
-    let g = FunctionalGroupIdentifier::from_byte(b);
+    let g = FunctionalGroupIdentifier::from(b);
     let name = match g {
         FunctionalGroupIdentifier::IsoSaeReserved(_) => 0,
         FunctionalGroupIdentifier::EmissionsSystemGroup => 1,
@@ -35,8 +34,7 @@ pub(crate) fn put_group(b: u8, out: &mut [u8], at: usize) -> usize
         FunctionalGroupIdentifier::LegislativeSystemGroup(_) => 3,
         FunctionalGroupIdentifier::VobdSystem => 4,
     };
-    let numbers = [name, g.value() as u64];
-    put_numbers(&numbers, out, at)
+    put_numbers(&[name, u64::from(u8::from(g))], out, at)
 }
 
 // The byte, and whether it is reserved.
@@ -44,19 +42,15 @@ pub(crate) fn put_record_number(b: u8, out: &mut [u8], at: usize) -> usize
     ensures { IsPrefixLen result out.new }
 {
     let n = DtcStoredDataRecordNumber::new(b);
-    let numbers = [n.value() as u64, flag(n.is_reserved())];
-    put_numbers(&numbers, out, at)
+    put_numbers(&[u64::from(n.value()), u64::from(n.is_reserved())], out, at)
 }
 
 // The refusal, or its byte.
 pub(crate) fn put_sub_function(b: u8, out: &mut [u8], at: usize) -> usize
     ensures { IsPrefixLen result out.new }
 {
-    match RoutineControlSubFunction::from_byte(b) {
-        SubFunctionAnswer::Accepted(f) => {
-            let numbers = [0, 0, 0, f.value() as u64];
-            put_numbers(&numbers, out, at)
-        }
-        SubFunctionAnswer::Refused(e) => put_refused(e, 1, out, at),
+    match RoutineControlSubFunction::try_from(b) {
+        Ok(f) => put_numbers(&[0, 0, 0, u64::from(u8::from(f))], out, at),
+        Err(e) => put_refused(e, 1, out, at),
     }
 }

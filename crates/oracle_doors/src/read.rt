@@ -1,7 +1,6 @@
-// The calls that only read, and the records that they answer: each field as a number, in the order of the record.
+// The calls that only read, and the records that they answer: each field as a number, in the order of the record. Each record is one that C reads, so the fields of each are named one by one.
 ghost use Rattle.io.specs.Counts.{IsPrefixLen};
 
-use oracle_text::input::number_at;
 use oracle_text::text::put_numbers;
 use station::records::{
     FileTransferRecord, NextTroubleCodeRecord, RoutineRecord, TroubleCodeRecord,
@@ -64,16 +63,18 @@ pub(crate) fn put_next(r: NextTroubleCodeRecord, out: &mut [u8], at: usize) -> u
 pub(crate) fn valid_up_to(input: &[u8], out: &mut [u8], at: usize) -> usize
     ensures { IsPrefixLen result out.new }
 {
-    let numbers = [skr_valid_up_to(input)];
-    put_numbers(&numbers, out, at)
+    put_numbers(&[skr_valid_up_to(input)], out, at)
 }
 
 pub(crate) fn dtc_from_number(input: &[u8], out: &mut [u8], at: usize) -> usize
     ensures { IsPrefixLen result out.new }
 {
-    if input.len() != 4 {
+    let &[a, b, c, d] = input else {
         return 0;
-    }
-    let number = (number_at(input, 0, 4) % 4294967296) as u32;
-    put_code(skr_dtc_from_number(number), out, at)
+    };
+    put_code(
+        skr_dtc_from_number(u32::from_be_bytes([a, b, c, d])),
+        out,
+        at,
+    )
 }

@@ -10,20 +10,13 @@ use station::transfer::{
     skr_rewrite_request, skr_rewrite_response, skr_write_request, skr_write_response,
 };
 
-// What the call answered; or none was made, since the input has too few bytes for one, or the letter stands for none.
-#[derive(Clone, Copy)]
-enum Made {
-    Record(WrittenRecord),
-    Nothing,
-}
-
-fn write_request(input: &[u8], room: &mut [u8]) -> Made {
+fn write_request(input: &[u8], room: &mut [u8]) -> Option<WrittenRecord> {
     if input.len() < 44 {
-        return Made::Nothing;
+        return None;
     }
     let uncompressed = size_at(input, 4);
     let compressed = size_at(input, 20);
-    Made::Record(skr_write_request(
+    Some(skr_write_request(
         input[2],
         &input[44..],
         input[3],
@@ -35,13 +28,13 @@ fn write_request(input: &[u8], room: &mut [u8]) -> Made {
     ))
 }
 
-fn write_response(input: &[u8], room: &mut [u8]) -> Made {
+fn write_response(input: &[u8], room: &mut [u8]) -> Option<WrittenRecord> {
     if input.len() < 44 {
-        return Made::Nothing;
+        return None;
     }
     let uncompressed = size_at(input, 4);
     let compressed = size_at(input, 20);
-    Made::Record(skr_write_response(
+    Some(skr_write_response(
         input[2],
         &input[44..],
         input[3],
@@ -54,57 +47,44 @@ fn write_response(input: &[u8], room: &mut [u8]) -> Made {
     ))
 }
 
-fn write_routine_request(input: &[u8], room: &mut [u8]) -> Made {
+fn write_routine_request(input: &[u8], room: &mut [u8]) -> Option<WrittenRecord> {
     if input.len() < 6 {
-        return Made::Nothing;
+        return None;
     }
     let suppress = input[2] != 0;
     let identifier = two_at(input, 4);
     let record = &input[6..];
-    Made::Record(skr_write_routine_request(suppress, input[3], identifier, record, room))
+    Some(skr_write_routine_request(suppress, input[3], identifier, record, room))
 }
 
-fn write_routine_response(input: &[u8], room: &mut [u8]) -> Made {
+fn write_routine_response(input: &[u8], room: &mut [u8]) -> Option<WrittenRecord> {
     if input.len() < 6 {
-        return Made::Nothing;
+        return None;
     }
     let identifier = two_at(input, 4);
-    Made::Record(skr_write_routine_response(input[3], identifier, &input[6..], room))
+    Some(skr_write_routine_response(input[3], identifier, &input[6..], room))
 }
 
 // The list of answers has no tail for a rewriting.
-fn without_tail(r: RewrittenRecord) -> Made {
-    Made::Record(WrittenRecord {
+fn without_tail(r: RewrittenRecord) -> WrittenRecord {
+    WrittenRecord {
         number: r.number,
         first: r.first,
         second: r.second,
         written: r.written,
-    })
-}
-
-fn rewrite_request(input: &[u8], room: &mut [u8]) -> Made {
-    if input.len() < 2 {
-        return Made::Nothing;
     }
-    without_tail(skr_rewrite_request(&input[2..], room))
 }
 
-fn rewrite_response(input: &[u8], room: &mut [u8]) -> Made {
-    if input.len() < 2 {
-        return Made::Nothing;
-    }
-    without_tail(skr_rewrite_response(&input[2..], room))
-}
-
-fn write(letter: u8, input: &[u8], room: &mut [u8]) -> Made {
+// What the call answered; or none was made, since the input has too few bytes for one, or the letter stands for none.
+fn write(letter: u8, input: &[u8], room: &mut [u8]) -> Option<WrittenRecord> {
     match letter {
         b'E' => write_request(input, room),
         b'F' => write_response(input, room),
         b'G' => write_routine_request(input, room),
         b'H' => write_routine_response(input, room),
-        b'I' => rewrite_request(input, room),
-        b'J' => rewrite_response(input, room),
-        _ => Made::Nothing,
+        b'I' if 2 <= input.len() => Some(without_tail(skr_rewrite_request(&input[2..], room))),
+        b'J' if 2 <= input.len() => Some(without_tail(skr_rewrite_response(&input[2..], room))),
+        _ => None,
     }
 }
 
@@ -112,12 +92,10 @@ fn write(letter: u8, input: &[u8], room: &mut [u8]) -> Made {
 fn put_written(letter: u8, input: &[u8], room: &mut [u8], out: &mut [u8], at: usize) -> usize
     ensures { IsPrefixLen result out.new }
 {
-    let made = write(letter, input, room);
-    let Made::Record(r) = made else {
+    let Some(r) = write(letter, input, room) else {
         return 0;
     };
-    let numbers = [r.number, r.first, r.second, r.written];
-    let end = put_numbers(&numbers, out, at);
+    let end = put_numbers(&[r.number, r.first, r.second, r.written], out, at);
     put_hex(room, out, end)
 }
 
@@ -125,6 +103,6 @@ pub(crate) fn put_in_room(letter: u8, input: &[u8], out: &mut [u8], at: usize) -
     ensures { IsPrefixLen result out.new }
 {
     let mut room = full_room();
-    let n = io::count(two_at(input, 0) as isize, &room);
+    let n = usize::from(two_at(input, 0)).min(room.len());
     put_written(letter, input, &mut room[..n], out, at)
 }

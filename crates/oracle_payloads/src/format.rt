@@ -7,9 +7,9 @@ use oracle_text::text::put_numbers;
 pub(crate) fn put_format(input: &[u8], out: &mut [u8], at: usize) -> usize
     ensures { IsPrefixLen result out.new }
 {
-    if input.len() != 1 {
+    let &[b] = input else {
         return 0;
-    }
-    let numbers = [DataFormatIdentifier::from_byte(input[0]).value() as u64];
-    put_numbers(&numbers, out, at)
+    };
+    let format = DataFormatIdentifier::from(b);
+    put_numbers(&[u64::from(u8::from(format))], out, at)
 }

@@ -11,19 +11,24 @@ use request_file_transfer_response::sent_data::good_block_length;
 use wire::prefix::Prefix;
 use wire::refusal::Refusal;
 use wire::size::Size;
-use wire::write::{WriteAnswer, put_counted, put_eight, put_one_size, put_two_sizes};
+use wire::write::{put_counted, put_eight, put_one_size, put_two_sizes};
 
 // The payload that is made of sizes; of another number than these three there is none, and WrongFormat stands in.
-fn encode_sizes(payload: u8, uncompressed: Size, compressed: Size, room: &mut [u8]) -> WriteAnswer {
+fn encode_sizes(
+    payload: u8,
+    uncompressed: Size,
+    compressed: Size,
+    room: &mut [u8],
+) -> Result<usize, Refusal> {
     match payload {
         0 => put_two_sizes(Prefix::One, uncompressed, compressed, room),
         1 => put_two_sizes(Prefix::Two, uncompressed, compressed, room),
         2 => put_one_size(Prefix::Two, uncompressed, room),
-        _ => WriteAnswer::Refused(Refusal::WrongFormat { good: 0 }),
+        _ => Err(Refusal::WrongFormat { good: 0 }),
     }
 }
 
-fn encode(input: &[u8], room: &mut [u8]) -> WriteAnswer
+fn encode(input: &[u8], room: &mut [u8]) -> Result<usize, Refusal>
     requires { 43 ≤ length input.now }
 {
     match input[2] {
@@ -50,7 +55,7 @@ pub(crate) fn put_encoded(input: &[u8], out: &mut [u8], at: usize) -> usize
         return 0;
     }
     let mut room = full_room();
-    let n = io::count(two_at(input, 0) as isize, &room);
+    let n = usize::from(two_at(input, 0)).min(room.len());
     put_in_room(input, &mut room[..n], out, at)
 }
 
@@ -61,7 +66,7 @@ fn letters() -> [u8; 65536]
     [b'a'; 65536]
 }
 
-fn held(letter: u8, part: &[u8]) -> WriteAnswer {
+fn held(letter: u8, part: &[u8]) -> Result<usize, Refusal> {
     if letter == b'x' {
         good_block_length(part)
     } else {
@@ -73,10 +78,10 @@ fn held(letter: u8, part: &[u8]) -> WriteAnswer {
 pub(crate) fn put_held(letter: u8, input: &[u8], out: &mut [u8], at: usize) -> usize
     ensures { IsPrefixLen result out.new }
 {
-    if input.len() != 4 {
+    let &[a, b, c, d] = input else {
         return 0;
-    }
+    };
     let part = letters();
-    let n = io::count((number_at(input, 0, 4) % 131072) as isize, &part);
+    let n = (u32::from_be_bytes([a, b, c, d]) as usize % 131072).min(part.len());
     put_written(held(letter, &part[..n]), out, at)
 }
