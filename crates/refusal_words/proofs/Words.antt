@@ -3,10 +3,10 @@
 use Prim.Native.Nat.{ℕ, suc, ◌+◌, ◌*◌, ◌≤◌, ◌<◌}
 use mathlib.Core.Path.{◌≡◌, refl, sym, ap, ◌∙◌}
 use mathlib.Core.Bool.{Bool, true, false}
-use mathlib.Core.List.{List, [], ◌∷◌, ◌++◌, map}
+use mathlib.Core.List.{List, [], ◌∷◌, map}
 use mathlib.Core.Logic.{◌↔◌}
 use native.Mathlib.Omega.{arith}
-use borrow.Author.Tests.{leb-true, eqb-true, eqb-false, ne_eqb}
+use borrow.Author.Tests.{leb-true, eqb-true, eqb-false}
 use lib.Dec.{leb, eqb}
 use lib.ListN.{length, get_or}
 use Rattle.paper.specs.Choice.{pick, both}
@@ -17,20 +17,6 @@ use Rattle.paper.proofs.Choice.{both_true}
 use Rattle.refusal_words.specs.Words.{Row, number_of, words_of, worded, among, table, meaning}
 
 -- ---- what is found
--- beside what is known, no row has the number: as a match says it where none of its numbers is the one
-abbrev pub None : ℕ → List Row → Type 0 → Type 0
-None n [] known = known
-None n (r ∷ rows) known = None n rows (known × (n ≡ number_of r → ⊥))
-
--- then the number is looked for among the others
-past_rows : {known : Type 0} (rows others : List Row) (n : ℕ) → None n rows known → known × (among (rows ++ others) n ≡ among others n)
-unfolding among one_of
-past_rows [] others n h = (h, refl)
-past_rows (r ∷ rows) others n h = let p = past_rows rows others n h in (p.0.0, rw (ne_eqb (number_of r) n (λ e. p.0.1 (sym e))) p.1)
-
-pub past : (rows others : List Row) (n : ℕ) → None n rows (Unit {0}) → among (rows ++ others) n ≡ among others n
-past rows others n h = (past_rows rows others n h).1
-
 -- a row with the number n and the words w, of which P holds
 pub record Found (P : Row → Type 0) (n : ℕ) (w : List ℕ) : Type 0 where
   pub row : Row

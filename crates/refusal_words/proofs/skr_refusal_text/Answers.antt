@@ -4,4 +4,4 @@ use Rattle.station.proofs.Written.{wrote_known}
 use Rattle.refusal_words.proofs.skr_refusal_text.Goals as goal
 
 pub returns : goal.returns
-returns c = wrote_known refl c.refusal_text.ensures c.flat_write.ensures
+returns c = wrote_known refl c.refusal_text.ensures c.flat.ensures
