@@ -1,25 +1,26 @@
 // Trouble codes: the letters k and m to o.
 ghost use Rattle.io.specs.Counts.{IsPrefixLen};
 
-use dtc::status::{DtcRecord, DtcRecordRead};
-use oracle_text::answer::{flag, put_refused, put_written};
+use dtc::status::DtcRecord;
+use oracle_text::answer::{put_refused, put_written};
 use oracle_text::input::two_at;
 use oracle_text::room::full_room;
 use oracle_text::text::{put_hex, put_numbers};
+use wire::refusal::Refusal;
 
 // The code of three bytes: these, and its number.
 pub(crate) fn put_number(input: &[u8], out: &mut [u8], at: usize) -> usize
     ensures { IsPrefixLen result out.new }
 {
-    if input.len() != 3 {
+    let &[high, middle, low] = input else {
         return 0;
-    }
-    let c = DtcRecord::new(input[0], input[1], input[2]);
+    };
+    let code = DtcRecord::new(high, middle, low);
     let numbers = [
-        c.high_byte() as u64,
-        c.middle_byte() as u64,
-        c.low_byte() as u64,
-        c.to_u32() as u64,
+        u64::from(code.high_byte()),
+        u64::from(code.middle_byte()),
+        u64::from(code.low_byte()),
+        u64::from(code.to_u32()),
     ];
     put_numbers(&numbers, out, at)
 }
@@ -28,28 +29,26 @@ pub(crate) fn put_number(input: &[u8], out: &mut [u8], at: usize) -> usize
 pub(crate) fn put_equal(input: &[u8], out: &mut [u8], at: usize) -> usize
     ensures { IsPrefixLen result out.new }
 {
-    if input.len() != 6 {
+    let &[high, middle, low, other_high, other_middle, other_low] = input else {
         return 0;
-    }
-    let a = DtcRecord::new(input[0], input[1], input[2]);
-    let b = DtcRecord::new(input[3], input[4], input[5]);
-    let numbers = [flag(a.equals(b))];
-    put_numbers(&numbers, out, at)
+    };
+    let code = DtcRecord::new(high, middle, low);
+    let other = DtcRecord::new(other_high, other_middle, other_low);
+    put_numbers(&[u64::from(code == other)], out, at)
 }
 
 // The code and where the next field begins, or the refusal.
-fn put_read(a: DtcRecordRead, out: &mut [u8], at: usize) -> usize
+fn put_read(read: Result<(DtcRecord, usize), Refusal>, out: &mut [u8], at: usize) -> usize
     ensures { IsPrefixLen result out.new }
 {
-    match a {
-        DtcRecordRead::Accepted(c, next) => {
-            let high = c.high_byte() as u64;
-            let middle = c.middle_byte() as u64;
-            let low = c.low_byte() as u64;
-            let numbers = [0, 0, 0, high, middle, low, next as u64];
-            put_numbers(&numbers, out, at)
+    match read {
+        Ok((code, next)) => {
+            let high = u64::from(code.high_byte());
+            let middle = u64::from(code.middle_byte());
+            let low = u64::from(code.low_byte());
+            put_numbers(&[0, 0, 0, high, middle, low, next as u64], out, at)
         }
-        DtcRecordRead::Refused(e) => put_refused(e, 4, out, at),
+        Err(e) => put_refused(e, 4, out, at),
     }
 }
 
@@ -60,14 +59,14 @@ pub(crate) fn put_code(input: &[u8], out: &mut [u8], at: usize) -> usize
     if input.len() < 2 {
         return 0;
     }
-    let place = two_at(input, 0) as usize;
+    let place = usize::from(two_at(input, 0));
     put_read(DtcRecord::decode(&input[2..], place), out, at)
 }
 
-fn put_in_room(c: DtcRecord, room: &mut [u8], out: &mut [u8], at: usize) -> usize
+fn put_in_room(code: DtcRecord, room: &mut [u8], out: &mut [u8], at: usize) -> usize
     ensures { IsPrefixLen result out.new }
 {
-    let end = put_written(c.encode(room), out, at);
+    let end = put_written(code.encode(room), out, at);
     put_hex(room, out, end)
 }
 
@@ -75,11 +74,10 @@ fn put_in_room(c: DtcRecord, room: &mut [u8], out: &mut [u8], at: usize) -> usiz
 pub(crate) fn put_encoded(input: &[u8], out: &mut [u8], at: usize) -> usize
     ensures { IsPrefixLen result out.new }
 {
-    if input.len() != 5 {
+    let &[_, _, high, middle, low] = input else {
         return 0;
-    }
+    };
     let mut room = full_room();
     let n = io::count(two_at(input, 0) as isize, &room);
-    let c = DtcRecord::new(input[2], input[3], input[4]);
-    put_in_room(c, &mut room[..n], out, at)
+    put_in_room(DtcRecord::new(high, middle, low), &mut room[..n], out, at)
 }

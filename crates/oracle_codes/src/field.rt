@@ -2,56 +2,79 @@
 ghost use Rattle.io.specs.Counts.{IsPrefixLen};
 
 use dtc::status::{
-    DtcSeverityMask, DtcSeverityMaskRead, DtcStatusMask, DtcStatusMaskRead,
-    DtcStoredDataRecordNumber, DtcStoredDataRecordNumberRead, FunctionalGroupIdentifier,
-    FunctionalGroupIdentifierRead,
+    DtcSeverityMask, DtcStatusMask, DtcStoredDataRecordNumber, FunctionalGroupIdentifier,
 };
 use oracle_text::answer::{put_refused, put_written};
-use oracle_text::input::{number_at, two_at};
+use oracle_text::input::two_at;
 use oracle_text::room::full_room;
 use oracle_text::text::{put_hex, put_numbers};
-use wire::number::ByteAnswer;
 use wire::refusal::Refusal;
-use wire::write::WriteAnswer;
 
-fn status_at(s: &[u8], place: usize) -> ByteAnswer {
-    match DtcStatusMask::decode(s, place) {
-        DtcStatusMaskRead::Accepted(m, next) => ByteAnswer::Accepted(m.bits(), next),
-        DtcStatusMaskRead::Refused(e) => ByteAnswer::Refused(e),
+// The field that a byte of an input names.
+#[derive(Clone, Copy, Debug, PartialEq, Eq)]
+enum Field {
+    Status,
+    Severity,
+    Group,
+    RecordNumber,
+}
+
+// Of another number than these four there is none, and WrongFormat stands in.
+impl TryFrom<u8> for Field {
+    type Error = Refusal;
+
+    fn try_from(b: u8) -> Result<Field, Refusal> {
+        match b {
+            0 => Ok(Field::Status),
+            1 => Ok(Field::Severity),
+            2 => Ok(Field::Group),
+            3 => Ok(Field::RecordNumber),
+            _ => Err(Refusal::WrongFormat { good: 0 }),
+        }
     }
 }
 
-fn severity_at(s: &[u8], place: usize) -> ByteAnswer {
-    match DtcSeverityMask::decode(s, place) {
-        DtcSeverityMaskRead::Accepted(m, next) => ByteAnswer::Accepted(m.bits(), next),
-        DtcSeverityMaskRead::Refused(e) => ByteAnswer::Refused(e),
+impl Field {
+    // The byte at the place of the message, and where the next field begins.
+    fn decode(self, s: &[u8], place: usize) -> Result<(u8, usize), Refusal> {
+        match self {
+            Field::Status => DtcStatusMask::decode(s, place).map(|(mask, next)| (
+                mask.bits(),
+                next,
+            )),
+            Field::Severity => {
+                DtcSeverityMask::decode(s, place).map(|(mask, next)| (mask.bits(), next))
+            }
+            Field::Group => {
+                FunctionalGroupIdentifier::decode(s, place).map(|(group, next)| (
+                    group.value(),
+                    next,
+                ))
+            }
+            Field::RecordNumber => {
+                DtcStoredDataRecordNumber::decode(s, place).map(|(n, next)| (n.value(), next))
+            }
+        }
     }
-}
 
-fn group_at(s: &[u8], place: usize) -> ByteAnswer {
-    match FunctionalGroupIdentifier::decode(s, place) {
-        FunctionalGroupIdentifierRead::Accepted(g, next) => ByteAnswer::Accepted(g.value(), next),
-        FunctionalGroupIdentifierRead::Refused(e) => ByteAnswer::Refused(e),
-    }
-}
-
-fn record_number_at(s: &[u8], place: usize) -> ByteAnswer {
-    match DtcStoredDataRecordNumber::decode(s, place) {
-        DtcStoredDataRecordNumberRead::Accepted(n, next) => ByteAnswer::Accepted(n.value(), next),
-        DtcStoredDataRecordNumberRead::Refused(e) => ByteAnswer::Refused(e),
+    // The field that is made of a byte.
+    fn encode(self, b: u8, room: &mut [u8]) -> Result<usize, Refusal> {
+        match self {
+            Field::Status => DtcStatusMask::from_bits(b).encode(room),
+            Field::Severity => DtcSeverityMask::from_bits(b).encode(room),
+            Field::Group => FunctionalGroupIdentifier::from(b).encode(room),
+            Field::RecordNumber => DtcStoredDataRecordNumber::new(b).encode(room),
+        }
     }
 }
 
 // The byte and where the next field begins, or the refusal.
-fn put_read(a: ByteAnswer, out: &mut [u8], at: usize) -> usize
+fn put_read(read: Result<(u8, usize), Refusal>, out: &mut [u8], at: usize) -> usize
     ensures { IsPrefixLen result out.new }
 {
-    match a {
-        ByteAnswer::Accepted(b, next) => {
-            let numbers = [0, 0, 0, b as u64, next as u64];
-            put_numbers(&numbers, out, at)
-        }
-        ByteAnswer::Refused(e) => put_refused(e, 2, out, at),
+    match read {
+        Ok((b, next)) => put_numbers(&[0, 0, 0, u64::from(b), next as u64], out, at),
+        Err(e) => put_refused(e, 2, out, at),
     }
 }
 
@@ -62,26 +85,14 @@ pub(crate) fn put_field(input: &[u8], out: &mut [u8], at: usize) -> usize
     if input.len() < 2 {
         return 0;
     }
-    let s = &input[2..];
-    let place = number_at(input, 1, 1) as usize;
-    match input[0] {
-        0 => put_read(status_at(s, place), out, at),
-        1 => put_read(severity_at(s, place), out, at),
-        2 => put_read(group_at(s, place), out, at),
-        3 => put_read(record_number_at(s, place), out, at),
-        _ => 0,
-    }
+    let Ok(field) = Field::try_from(input[0]) else {
+        return 0;
+    };
+    put_read(field.decode(&input[2..], usize::from(input[1])), out, at)
 }
 
-// The field that is made of a byte; of another number than these four there is none, and WrongFormat stands in.
-fn encode(field: u8, b: u8, room: &mut [u8]) -> WriteAnswer {
-    match field {
-        0 => DtcStatusMask::from_bits(b).encode(room),
-        1 => DtcSeverityMask::from_bits(b).encode(room),
-        2 => FunctionalGroupIdentifier::from_byte(b).encode(room),
-        3 => DtcStoredDataRecordNumber::new(b).encode(room),
-        _ => WriteAnswer::Refused(Refusal::WrongFormat { good: 0 }),
-    }
+fn encode(field: u8, b: u8, room: &mut [u8]) -> Result<usize, Refusal> {
+    Field::try_from(field)?.encode(b, room)
 }
 
 fn put_in_room(field: u8, b: u8, room: &mut [u8], out: &mut [u8], at: usize) -> usize
