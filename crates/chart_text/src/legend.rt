@@ -1,4 +1,4 @@
-// The legend: the refusal numbers that occur, in words.
+// The legend: the refusal numbers that occur, in words. A number is a place in a row of the table, which counts by it, and no kind of its own.
 ghost use Rattle.std.specs.Prelude.{◌≡◌, ◌≤◌, ◌<◌, length};
 ghost use Rattle.paper.specs.Chart.{occurs, words, entry, legend_from};
 ghost use Rattle.form.specs.Text.{Grew};

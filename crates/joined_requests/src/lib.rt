@@ -19,6 +19,7 @@ pub struct SplitError {
 }
 
 // How long the piece is that begins here: where its tail begins, counted from its own start, it ends.
+// `at` is a place of the whole buffer, as in the laws of its pieces (`Walk`).
 fn piece_at(buffer: &[u8], at: usize) -> Result<usize, Refusal>
     requires { at ≤ length buffer.now }
     ensures { PieceRight (drop at buffer.now) result }

@@ -11,6 +11,7 @@ ghost use Rattle.tally.specs.Judged.{judged, counted};
 use wire::refusal::Refusal;
 
 // Whether a record's month is 1 to 12, its direction 0 or 1 and its refusal number 0 to 9. Station and coach number may be anything.
+// All three are bytes as they stand in a record, where each may have any value.
 fn in_ranges(month: u8, direction: u8, number: u8) -> bool
     ensures value { result ≡ in_ranges month direction number }
     ensures bounds { IsTrue result → (1 ≤ month) × (month ≤ 12) × (number ≤ 9) }
