@@ -18,6 +18,7 @@ use crate::blocks::ascii_blocks;
 // The range of the bytes after a character's second.
 pub(crate) const TAIL: (u8, u8) = (0x80, 0xBF);
 
+// Both tests are made, with no branch between them.
 pub(crate) fn in_range(range: (u8, u8), b: u8) -> bool
     ensures { result ≡ in_range range b }
 {
@@ -55,7 +56,7 @@ pub(crate) fn ascii_run(s: &[u8]) -> usize
 }
 
 // The length of the longest beginning of s that is UTF-8: the ASCII that it begins with is passed in small blocks, and then it is found step by step.
-// A step is 0 where no character begins what is left.
+// A step is 0 where no character begins what is left, as the paper's `char_length` is, by which `Step` says so.
 pub(crate) fn by_characters<F: Fn(&[u8]) -> usize>(s: &[u8], step: F) -> usize
     requires callable { F.IsAlwaysCallable step }
     requires steps { MakesSteps (FnReturnsAt F.Fn step) }
