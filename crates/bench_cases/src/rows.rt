@@ -69,6 +69,7 @@ pub(crate) fn rewritten_to(s: &[u8], expected: &[u8]) -> bool
     let Ok((written, tail)) = rewrite_request(s, &mut out) else {
         return false;
     };
+    // `part_at` takes any place; `out[..written]` would have to be shown to lie within `out` first.
     let place = Place {
         start: 0,
         len: written,

@@ -1,5 +1,5 @@
 // Trouble-code fields: the code and its number, status and severity masks, the names of formats and groups, the stored-data record number.
-// A field is read at a place of the message and written at the start of the room that is lent for it.
+// A field is read at a place of the message, so that `at` stands beside it in each reader (docs/DIFFERENCES.md), and written at the start of the room that is lent for it.
 ghost use Rattle.std.specs.Prelude.{◌≡◌, ◌/◌, ◌%◌, ◌<◌, eqb, [], ◌∷◌, slice_index};
 ghost use Rattle.std.specs.Int.Bits.{bit_and, bit_or};
 ghost use Rattle.paper.specs.Answer.{accepted};
@@ -252,6 +252,7 @@ impl Mask<Status> {
     pub const WarningIndicatorRequested: DtcStatusMask = mask!(0x80);
 
     // The bits of the eight, each the mask of the question that it is named after. Nobody calls this: its promise is the table.
+    // It answers them, since a clause cannot name a constant of one sort of mask.
     fn constants() -> [u8; 8]
         ensures test_failed { slice_index result 0 ≡ mask_of test_failed }
         ensures test_failed_this_operation_cycle { slice_index result 1 ≡ mask_of test_failed_this_operation_cycle }
@@ -363,6 +364,7 @@ impl Mask<Severity> {
     pub const CheckImmediately: DtcSeverityMask = mask!(0x80);
 
     // The bits of the eight, each the mask of the question that it is named after. Nobody calls this: its promise is the table.
+    // It answers them, since a clause cannot name a constant of one sort of mask.
     fn constants() -> [u8; 8]
         ensures dtc_class_0 { slice_index result 0 ≡ mask_of (dtc_class 0) }
         ensures dtc_class_1 { slice_index result 1 ≡ mask_of (dtc_class 1) }
