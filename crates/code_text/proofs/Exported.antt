@@ -1,20 +1,23 @@
 -- The lines of a listing's first records, one more, and what exporting answers. Assumes nothing.
 use mathlib.Core.Path.{◌≡◌, refl, sym, ap, ◌∙◌}
-use Prim.Native.Nat.{ℕ, zero, suc, ◌+◌, ◌*◌, ◌≤◌}
+use Prim.Native.Nat.{ℕ, zero, suc, ◌+◌, ◌-◌, ◌*◌, ◌%◌, ◌≤◌}
 use mathlib.Core.List.{List, [], ◌∷◌, ◌++◌, append_assoc, append-nil}
 use native.Mathlib.Numerals.{add-one}
 use native.Mathlib.Omega.{arith}
-use lib.ListN.{length, get_elem?, take, drop}
+use lib.ListN.{length, get_or, get_elem?, take, drop}
+use lib.Dec.{leb, eqb}
+use borrow.Author.Tests.{leb-true}
 use lib.Seq.{length-take-le, take_all}
-use Rattle.paper.specs.Answer.{Answer, accepted, refused}
-use Rattle.paper.specs.Listing.{SubFunction, Listed, Listing, read_listing, record_at}
+use Rattle.paper.specs.Choice.{both}
+use Rattle.paper.specs.Answer.{Refusal, Answer, accepted, refused, too_short, unknown_service, too_many, cut}
+use Rattle.paper.specs.Listing.{SubFunction, Listed, Listing, listing, answer_byte, sub_function_byte, record_size, records_in, whole_records, read_listing, Head, head_of, record_at}
 use Rattle.paper.specs.CodeText.{line_text, lines_text, export_listing}
+use Rattle.paper.proofs.Choice.{never, check_passed}
 use Rattle.paper.proofs.Listing.{length_records}
 use Rattle.paper.proofs.LineText.{length_lines}
-use Rattle.paper.proofs.ListingText.{export_accepted}
+use Rattle.paper.proofs.ListingText.{export_accepted, export_refused}
 use Rattle.wire.specs.Writing.{Filled}
 use Rattle.wire.proofs.Over.{rest, back, over_length, filled_none, filled_more, filled_as}
-use Rattle.listing.proofs.Reading.{Holds}
 use Rattle.code_text.specs.Lines.{line_shown, records_read}
 
 -- ---- of a list of records
@@ -63,9 +66,38 @@ module _ (a : Answer Listing) (n : ℕ) (count : length (records_read a) ≡ n) 
   length_all = length_lines (records_read a) ∙ ap (λ (j : ℕ). 12 * j) count
 
 -- ---- what was read is exported
-module _ (f : SubFunction) (s : List ℕ) {m n : ℕ} (h : Holds f s m n) where
-  pub read_count : (n ≤ 4096) × (length (records_read (read_listing f s)) ≡ n)
-  read_count = (h.few, rw h.read (length_records f n (drop 3 s)))
+-- few records are read
+few_read : (f : SubFunction) (s : List ℕ) {l : Listing} → read_listing f s ≡ accepted l → length l.records ≤ 4096
+unfolding read_listing
+few_read f s {l} e =
+    let (long, e₁) = check_passed (leb 3 (length s)) (too_short 3 (length s)) _ e in
+    let (first, e₂) = check_passed (both (eqb (get_or s 0 0) answer_byte) (eqb (get_or s 1 0) (sub_function_byte f))) (unknown_service 0) _ e₁ in
+    let (few, e₃) = check_passed (leb (whole_records f s) 4096) too_many _ e₂ in
+    let (whole, e₄) = check_passed (eqb ((length s - 3) % record_size f) 0) cut _ e₃ in
+    let is : l ≡ listing f (get_or s 2 0) (records_in f (whole_records f s) (drop 3 s)) = cc in
+    rw (is, length_records f (whole_records f s) (drop 3 s)) (leb-true _ _ few)
 
-  pub read_exported : export_listing f s ≡ accepted (lines_text (records_read (read_listing f s)))
-  read_exported = rw h.read (export_accepted f s h.read)
+module _ (f : SubFunction) (s : List ℕ) where
+  pub read_count : {m n : ℕ} → accepted (record { mask = m; records = n }) ≡ head_of (read_listing f s) → (n ≤ 4096) × (length (records_read (read_listing f s)) ≡ n)
+  read_count {m} {n} h = by (read_listing f s) refl h
+    where
+      by : (a : Answer Listing) → read_listing f s ≡ a → accepted (record { mask = m; records = n }) ≡ head_of a → (n ≤ 4096) × (length (records_read a) ≡ n)
+      by (refused e) r q = absurd (never (sym q))
+      by (accepted l) r q =
+          let head : ◌≡◌ {A = Head} (record { mask = m; records = n }) (record { mask = l.mask; records = length l.records }) = cc in
+          let many : n ≡ length l.records = ap Head.records head in
+          (rw many (few_read f s r), sym many)
+
+  pub read_exported : {m n : ℕ} → accepted (record { mask = m; records = n }) ≡ head_of (read_listing f s) → export_listing f s ≡ accepted (lines_text (records_read (read_listing f s)))
+  read_exported {m} {n} h = by (read_listing f s) refl h
+    where
+      by : (a : Answer Listing) → read_listing f s ≡ a → accepted (record { mask = m; records = n }) ≡ head_of a → export_listing f s ≡ accepted (lines_text (records_read a))
+      by (refused e) r q = absurd (never (sym q))
+      by (accepted l) r q = export_accepted f s r
+
+  pub refused_exported : {e : Refusal} → refused e ≡ head_of (read_listing f s) → export_listing f s ≡ refused e
+  refused_exported {e} h = by (read_listing f s) refl h
+    where
+      by : (a : Answer Listing) → read_listing f s ≡ a → refused e ≡ head_of a → export_listing f s ≡ refused e
+      by (refused x) r q = let same : e ≡ x = cc in rw same (export_refused f s r)
+      by (accepted l) r q = absurd (never q)

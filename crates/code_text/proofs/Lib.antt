@@ -1,8 +1,6 @@
-pub mod Rows
 pub mod LineRows
-pub mod Turns
 pub mod Texts
-pub mod Standing
+pub mod Turns
 pub mod Exported
 pub mod Imported
 pub mod Unique

@@ -1,28 +1,25 @@
--- The parts of a code's text and of a line, put together. Assumes nothing.
+-- What stands where the characters of a line do, and a line's two parts. Assumes nothing.
 use mathlib.Core.Path.{◌≡◌, refl}
-use Prim.Native.Nat.{ℕ}
-use mathlib.Core.List.{[], ◌∷◌, ◌++◌}
-use lib.ListN.{length}
-use Rattle.paper.specs.TroubleCode.{TroubleCode}
+use Prim.Native.Nat.{ℕ, ◌/◌, ◌%◌, ◌≤◌}
+use mathlib.Core.List.{List, [], ◌∷◌, ◌++◌}
+use native.Mathlib.Omega.{arith}
+use native.Mathlib.Nat.{zero-add}
+use lib.ListN.{get_or}
 use Rattle.paper.specs.Listing.{Listed}
-use Rattle.paper.specs.CodeText.{code_places, line_places, code_text, line_text}
-use Rattle.code_text.specs.CodeText.{high_text, pair_text}
+use Rattle.paper.specs.CodeText.{code_places, line_places, one_code, code_text, line_text, NoneBad}
+use Rattle.paper.proofs.CodeText.{whole_code, code-stands}
+use Rattle.code_text.specs.CodeText.{LineStands}
 
--- the high byte, the middle byte, a dash, the low byte
-pub code_put : (c : TroubleCode) {h m l : ℕ} → h ≡ c.high → m ≡ c.middle → l ≡ c.low → ((high_text h ++ pair_text m) ++ (45 ∷ [])) ++ pair_text l ≡ code_text c
-unfolding code_places code_text
-code_put c p q r = rw (p, q, r)
+-- fewer characters of a line stand there, too
+pub shorter : {n at : ℕ} {t : List ℕ} → LineStands n at t → (m : ℕ) → m ≤ n → LineStands m at t
+shorter s m h = record { long = omega (arith, s.long); stand = λ j l. s.stand j (omega arith) }
 
--- what stands before the status, and with it
-pub length_space : (c : TroubleCode) → length (code_text c ++ (32 ∷ [])) ≡ 9
-unfolding code_places code_text
-length_space c = refl
+-- a text in which everything can stand is a code
+pub whole-stands : (t : List ℕ) → NoneBad one_code t → LineStands 8 0 t
+whole-stands t n = record { long = omega (arith, (whole_code t n).0); stand = λ j h. rw (zero-add j) (code-stands t n j h) }
 
-pub length_status : (c : TroubleCode) (st : ℕ) → length ((code_text c ++ (32 ∷ [])) ++ pair_text st) ≡ 11
-unfolding code_places code_text
-length_status c st = refl
-
--- the code, a space, the status, a line feed
-pub line_put : (r : Listed) {st : ℕ} → st ≡ r.status → ((code_text r.code ++ (32 ∷ [])) ++ pair_text st) ++ (10 ∷ []) ≡ line_text r
+-- a line is a code, and then a space, the status and a line feed
+pub line_put : (r : Listed) {st h l : ℕ} → st ≡ r.status → h ≡ get_or (get_or line_places 9 []) (st / 16) 0 → l ≡ get_or (get_or line_places 10 []) (st % 16) 0
+    → code_text r.code ++ (32 ∷ h ∷ l ∷ 10 ∷ []) ≡ line_text r
 unfolding code_places line_places code_text line_text
-line_put r e = rw e
+line_put r e p q = rw (p, q, e) refl

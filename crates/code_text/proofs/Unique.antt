@@ -8,7 +8,9 @@ use Rattle.wire.proofs.Unique.{Determined}
 use Rattle.wire.proofs.UniqueWriting.{WritesOnce, wrote_once}
 use Rattle.dtc.proofs.Rounds.{record_of}
 use Rattle.code_text.specs.CodeText.{code_said}
-use Rattle.code_text.specs.declared.code.CodeAnswer.{CodeAnswer}
+use Rattle.std.specs.Prelude.{Result, Ok, Err}
+use Rattle.wire.specs.declared.refusal.Refusal.{Refusal}
+use Rattle.dtc.specs.declared.status.DtcRecord.{DtcRecord}
 use Rattle.code_text.proofs.character.hex_value.Kinds as hex-value-kinds
 use Rattle.code_text.proofs.character.hex_value.Reads as hex-value
 use Rattle.code_text.proofs.code.put_code_text.Kinds as put-code-text-kinds
@@ -25,13 +27,13 @@ hex_value_determined κs a x y r₁ r₂ p q = p ∙ sym q
 
 -- ---- reading a code
 -- the answer that the paper's stands for
-abbrev pub code_back : Answer TroubleCode → CodeAnswer
-code_back (accepted c) = CodeAnswer.Accepted (record_of c)
-code_back (refused e) = CodeAnswer.Refused (refusal_back e)
+abbrev pub code_back : Answer TroubleCode → Result DtcRecord Refusal
+code_back (accepted c) = Ok (record_of c)
+code_back (refused e) = Err (refusal_back e)
 
-pub code-back : (r : CodeAnswer) → code_back (code_said r) ≡ r
-code-back (CodeAnswer.Accepted c) = refl
-code-back (CodeAnswer.Refused e) = ap CodeAnswer.Refused (refusal-back e)
+pub code-back : (r : Result DtcRecord Refusal) → code_back (code_said r) ≡ r
+code-back (Ok c) = refl
+code-back (Err e) = ap Err (refusal-back e)
 
 pub read_code_text_determined : Determined 1 read-code-text-kinds.ps read-code-text-kinds.r read-code-text.Post
 read_code_text_determined κs a x y r₁ r₂ p q = sym (code-back r₁) ∙ ap code_back (p ∙ sym q) ∙ code-back r₂

@@ -3,19 +3,12 @@ ghost use Rattle.std.specs.Prelude.{◌≡◌, [], get_or};
 ghost use Rattle.paper.specs.CodeText.{line_places, can_stand, can_end};
 ghost use Rattle.code_text.specs.CodeText.{sort_of, FoundWrong};
 
-use crate::character::can_stand;
+use crate::character::value;
 
-#[derive(Clone, Copy)]
+#[derive(Clone, Copy, Debug, PartialEq, Eq)]
 pub(crate) enum Sort {
     OneCode,
     Lines,
-}
-
-// Where something can't stand first: the end of the text counts as its length.
-#[derive(Clone, Copy)]
-pub(crate) enum Wrong {
-    Nowhere,
-    At(usize),
 }
 
 // The place of a line that a place of the text is; 12 behind the eighth character of a code, where nothing stands.
@@ -23,12 +16,7 @@ fn place_in_line(sort: Sort, i: usize) -> usize
     ensures { get_or line_places result [] ≡ can_stand (sort_of sort) i }
 {
     match sort {
-        Sort::OneCode => {
-            if i < 8 {
-                return i;
-            }
-            12
-        }
+        Sort::OneCode => { if i < 8 { i } else { 12 } }
         Sort::Lines => i % 12,
     }
 }
@@ -43,19 +31,18 @@ fn can_end(sort: Sort, i: usize) -> bool
     }
 }
 
-// The first place of the text at which something can't stand.
-pub(crate) fn first_wrong(sort: Sort, text: &[u8]) -> Wrong
+// The first place of the text at which something can't stand, its end counting as its length.
+pub(crate) fn first_wrong(sort: Sort, text: &[u8]) -> Option<usize>
     ensures { FoundWrong (sort_of sort) text.now result }
 {
-    let mut i: usize = 0;
-    while i < text.len() {
-        if !can_stand(place_in_line(sort, i), text[i]) {
-            return Wrong::At(i);
+    for (i, c) in text.iter().enumerate() {
+        if value(place_in_line(sort, i), *c).is_none() {
+            return Some(i);
         }
-        i += 1;
     }
-    if can_end(sort, i) {
-        return Wrong::Nowhere;
+    if can_end(sort, text.len()) {
+        None
+    } else {
+        Some(text.len())
     }
-    Wrong::At(i)
 }

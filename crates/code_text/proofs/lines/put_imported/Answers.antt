@@ -1,4 +1,4 @@
--- `code_text::lines::put_imported` meets its contract: too many lines, or their listing.
+-- `put_imported` meets its contract: too many lines, or their listing.
 use Rattle.paper.specs.CodeText.{lines}
 use Rattle.paper.proofs.TextPlaces.{none_right}
 use Rattle.paper.proofs.ListingText.{import_many, import_good}

@@ -1,4 +1,4 @@
--- `code_text::lines::put_lines` meets its contract: the lines of the first k records stand at the start of the room, and the next is put behind them.
+-- `put_lines` meets its contract: the lines of the first k records stand at the start of the room, and the next is put behind them.
 use borrow.Author.Rules.{rules}
 use mathlib.Core.Path.{◌≡◌, refl}
 use native.Mathlib.Omega.{arith}
@@ -15,26 +15,21 @@ returns-then-room-needed c =
 
 pub loop-k-init : goal.loop-k-init
 loop-k-init c =
-    (search rules, no_line (read_listing (sub_of c.args.sub) c.args.listing.now) c.args.n c.requires.1)
+    (no_line (read_listing (sub_of c.args.sub) c.args.listing.now) c.args.n c.requires.1)
 
 pub slice_bounds-put_line_of-start : goal.slice_bounds-put_line_of-start
 slice_bounds-put_line_of-start c =
     let l = c.loop-k in
-    omega (arith, same-room (read_listing (sub_of c.args.sub) c.args.listing.now) c.args.n c.requires.1 l.k l.invariant.0 (search rules) l.invariant.1)
+    omega (arith, same-room (read_listing (sub_of c.args.sub) c.args.listing.now) c.args.n c.requires.1 l.k (omega arith) (search rules) l.invariant)
 
 pub loop-k-preserved : goal.loop-k-preserved
 loop-k-preserved c =
     let l = c.loop-k in
-    (search rules, line_more (read_listing (sub_of c.args.sub) c.args.listing.now) c.args.n c.requires.1 l.k l.invariant.0 l.invariant.1 (filled refl c.put_line_of.ensures))
-
-pub shape_of-out : goal.shape_of-out
-shape_of-out c =
-    let l = c.loop-k in
-    same-room (read_listing (sub_of c.args.sub) c.args.listing.now) c.args.n c.requires.1 l.k l.invariant.0 (search rules) l.invariant.1
+    (line_more (read_listing (sub_of c.args.sub) c.args.listing.now) c.args.n c.requires.1 l.k (omega arith) l.invariant (filled refl c.put_line_of.ensures))
 
 pub returns : goal.returns
 returns c =
     let l = c.loop-k in
     let a = read_listing (sub_of c.args.sub) c.args.listing.now in
     let all : l.k ≡ c.args.n = omega arith in
-    writes _ (length_all a c.args.n c.requires.1) (search rules) (filled_as (all_lines a c.args.n c.requires.1) (rw all at l.invariant.1))
+    writes _ (length_all a c.args.n c.requires.1) (search rules) (filled_as (all_lines a c.args.n c.requires.1) (rw all at l.invariant))

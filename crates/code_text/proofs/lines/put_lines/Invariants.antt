@@ -1,5 +1,4 @@
--- `code_text::lines::put_lines` meets its contract: the lines of the first k records stand at the start of the room, and the next is put behind them.
-use Prim.Native.Nat.{◌-◌, ◌≤◌}
+-- `put_lines` meets its contract: the lines of the first k records stand at the start of the room, and the next is put behind them.
 use Rattle.paper.specs.Listing.{read_listing}
 use Rattle.wire.specs.Writing.{Filled}
 use Rattle.listing.specs.Listing.{sub_of}
@@ -7,7 +6,4 @@ use Rattle.code_text.proofs.Exported.{lines_to}
 use Rattle.code_text.proofs.lines.put_lines.Given as goal
 
 abbrev pub invariant-loop-k : goal.invariant-loop-k
-invariant-loop-k l = (l.k ≤ l.n) × Filled (lines_to (read_listing (sub_of l.sub) l.listing) l.k) l.initial.out l.out
-
-abbrev pub decreases-loop-k : goal.decreases-loop-k
-decreases-loop-k l = l.n - l.k
+invariant-loop-k l = Filled (lines_to (read_listing (sub_of l.sub) l.listing) l.k) l.initial.out l.out

@@ -1,4 +1,4 @@
--- `code_text::lines::put_listing` meets its contract: the head, and the records in the room behind it.
+-- `put_listing` meets its contract: the head, and the records in the room behind it.
 use borrow.Author.Rules.{rules}
 use mathlib.Core.Path.{refl}
 use Rattle.wire.proofs.Over.{filled_more, filled_as}

@@ -1,4 +1,4 @@
--- `code_text::lines::put_records` meets its contract: the records of the first k lines stand at the start of the room, and the next is put behind them.
+-- `put_records` meets its contract: the records of the first k lines stand at the start of the room, and the next is put behind them.
 use borrow.Author.Rules.{rules}
 use mathlib.Core.Path.{◌≡◌, refl}
 use native.Mathlib.Omega.{arith}
@@ -10,7 +10,7 @@ pub returns-then-room-needed : goal.returns-then-room-needed
 returns-then-room-needed c = refuses _ (length_to c.args.text.now _) (search rules)
 
 pub loop-k-init : goal.loop-k-init
-loop-k-init c = (search rules, no_record _)
+loop-k-init c = (no_record _)
 
 pub line_at-requires : goal.line_at-requires
 line_at-requires c = line_stands c.requires c.loop-k.k c.loop-k-test.true
@@ -19,23 +19,17 @@ pub slice_bounds-put_record-start : goal.slice_bounds-put_record-start
 slice_bounds-put_record-start c =
     let l = c.loop-k in
     let a = c.args in
-    omega (arith, same-room a.text.now l.k a.n l.invariant.0 (search rules) l.invariant.1)
+    omega (arith, same-room a.text.now l.k a.n (omega arith) (search rules) l.invariant)
 
 pub loop-k-preserved : goal.loop-k-preserved
 loop-k-preserved c =
     let l = c.loop-k in
     let a = c.args in
-    (search rules, record_more a.text.now l.k c.line_at.ensures l.invariant.1 (filled refl c.put_record.ensures))
-
-pub shape_of-out : goal.shape_of-out
-shape_of-out c =
-    let l = c.loop-k in
-    let a = c.args in
-    same-room a.text.now l.k a.n l.invariant.0 (search rules) l.invariant.1
+    (record_more a.text.now l.k c.line_at.ensures l.invariant (filled refl c.put_record.ensures))
 
 pub returns : goal.returns
 returns c =
     let l = c.loop-k in
     let a = c.args in
     let all : l.k ≡ a.n = omega arith in
-    writes _ (length_to a.text.now a.n) (search rules) (rw all at l.invariant.1)
+    writes _ (length_to a.text.now a.n) (search rules) (rw all at l.invariant)

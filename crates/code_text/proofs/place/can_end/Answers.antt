@@ -1,4 +1,4 @@
--- `code_text::place::can_end` meets its contract: the two sorts, one by one.
+-- `can_end` meets its contract: the two sorts, one by one.
 use mathlib.Core.Path.{refl}
 use Rattle.code_text.proofs.place.can_end.Goals as goal
 

@@ -1,12 +1,8 @@
--- `code_text::place::first_wrong` meets its contract: every character before place i can stand where it is.
-use Prim.Native.Nat.{ℕ, ◌-◌, ◌≤◌, ◌<◌}
-use lib.ListN.{length}
+-- `first_wrong` meets its contract: every character before place i can stand where it is.
+use Prim.Native.Nat.{ℕ, ◌<◌}
 use Rattle.paper.proofs.TextPlaces.{Stands}
 use Rattle.code_text.specs.CodeText.{sort_of}
 use Rattle.code_text.proofs.place.first_wrong.Given as goal
 
 abbrev pub invariant-loop-i : goal.invariant-loop-i
-invariant-loop-i l = (l.i ≤ length l.text) × ((k : ℕ) → k < l.i → Stands (sort_of l.sort) l.text k)
-
-abbrev pub decreases-loop-i : goal.decreases-loop-i
-decreases-loop-i l = length l.text - l.i
+invariant-loop-i l = (k : ℕ) → k < l.i → Stands (sort_of l.sort) l.text k

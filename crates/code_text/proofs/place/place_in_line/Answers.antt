@@ -1,4 +1,4 @@
--- `code_text::place::place_in_line` meets its contract: a code is the beginning of a line.
+-- `place_in_line` meets its contract: a code is the beginning of a line.
 use borrow.Author.Rules.{rules}
 use mathlib.Core.Path.{refl}
 use Rattle.code_text.proofs.LineRows.{place-one, place_behind}

@@ -1,0 +1,1 @@
+-- `character` meets its contract: the row's character, or none.
