@@ -3,7 +3,7 @@
 use mathlib.Core.Path.{◌≡◌, ap}
 use Prim.Native.Nat.{ℕ}
 use Rattle.paper.specs.Answer.{Refusal, Answer, accepted, refused}
-use Rattle.paper.specs.Replay.{LogRecord, State, Ended, ran, stopped, after, stepped, within64, stepped_once}
+use Rattle.paper.specs.Replay.{LogRecord, State, ran, stopped, after, stepped, within64, stepped_once}
 
 module _ (place : ℕ) (st : State) (r : LogRecord) where
   -- the record is accepted

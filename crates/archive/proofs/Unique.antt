@@ -37,6 +37,26 @@ use Rattle.archive.proofs.messages.skr_write_routine_response_message.Kinds as w
 use Rattle.archive.proofs.messages.skr_write_routine_response_message.Reads as write-routine-response-message-reads
 use Rattle.archive.proofs.messages.skr_write_negative.Kinds as write-negative-kinds
 use Rattle.archive.proofs.messages.skr_write_negative.Reads as write-negative-reads
+use Rattle.archive.proofs.messages.MessageRecordFromMessage.from.Kinds as accepted-message-kinds
+use Rattle.archive.proofs.messages.MessageRecordFromMessage.from.Reads as accepted-message-reads
+use Rattle.archive.proofs.messages.MessageRecordFromNegativeAnswer.from.Kinds as negative-message-kinds
+use Rattle.archive.proofs.messages.MessageRecordFromNegativeAnswer.from.Reads as negative-message-reads
+use Rattle.archive.proofs.messages.MessageRecordFromRefusal.from.Kinds as refused-message-kinds
+use Rattle.archive.proofs.messages.MessageRecordFromRefusal.from.Reads as refused-message-reads
+use Rattle.archive.proofs.replays.ReplayRecordFromState.from.Kinds as accepted-replay-kinds
+use Rattle.archive.proofs.replays.ReplayRecordFromState.from.Reads as accepted-replay-reads
+use Rattle.archive.proofs.replays.ReplayRecordFromStopped.from.Kinds as stopped-replay-kinds
+use Rattle.archive.proofs.replays.ReplayRecordFromStopped.from.Reads as stopped-replay-reads
+use Rattle.archive.proofs.joined.SplitRecordFromUsize.from.Kinds as accepted-split-kinds
+use Rattle.archive.proofs.joined.SplitRecordFromUsize.from.Reads as accepted-split-reads
+use Rattle.archive.proofs.joined.SplitRecordFromSplitError.from.Kinds as refused-split-kinds
+use Rattle.archive.proofs.joined.SplitRecordFromSplitError.from.Reads as refused-split-reads
+use Rattle.archive.proofs.sheet.TallyRecordFromSheet.from.Kinds as flat-sheet-kinds
+use Rattle.archive.proofs.sheet.TallyRecordFromSheet.from.Reads as flat-sheet-reads
+use Rattle.archive.proofs.why.WhyRecordFromUnit.from.Kinds as no-reason-kinds
+use Rattle.archive.proofs.why.WhyRecordFromUnit.from.Reads as no-reason-reads
+use Rattle.archive.proofs.why.WhyRecordFromReason.from.Kinds as a-reason-kinds
+use Rattle.archive.proofs.why.WhyRecordFromReason.from.Reads as a-reason-reads
 
 -- ---- readers and questions
 pub why_request_determined : Determined 1 why-request-kinds.ps why-request-kinds.r why-request-reads.Post
@@ -82,3 +102,34 @@ write_routine_response_message_determined κs a x y r₁ r₂ p q = (p.0 ∙ sym
 
 pub write_negative_determined : WritesOnce 1 write-negative-kinds.ps write-negative-kinds.r (λ κs x. x.1.1.0) write-negative-reads.Post
 write_negative_determined κs a x y r₁ r₂ p q = (p.0 ∙ sym q.0, p.1 ∙ sym q.1)
+
+-- ---- the conversions
+pub accepted_message_determined : Determined 0 accepted-message-kinds.ps accepted-message-kinds.r accepted-message-reads.Post
+accepted_message_determined κs a x y r₁ r₂ p q = p ∙ sym q
+
+pub negative_message_determined : Determined 0 negative-message-kinds.ps negative-message-kinds.r negative-message-reads.Post
+negative_message_determined κs a x y r₁ r₂ p q = p ∙ sym q
+
+pub refused_message_determined : Determined 0 refused-message-kinds.ps refused-message-kinds.r refused-message-reads.Post
+refused_message_determined κs a x y r₁ r₂ p q = p ∙ sym q
+
+pub accepted_replay_determined : Determined 0 accepted-replay-kinds.ps accepted-replay-kinds.r accepted-replay-reads.Post
+accepted_replay_determined κs a x y r₁ r₂ p q = p ∙ sym q
+
+pub stopped_replay_determined : Determined 0 stopped-replay-kinds.ps stopped-replay-kinds.r stopped-replay-reads.Post
+stopped_replay_determined κs a x y r₁ r₂ p q = p ∙ sym q
+
+pub accepted_split_determined : Determined 0 accepted-split-kinds.ps accepted-split-kinds.r accepted-split-reads.Post
+accepted_split_determined κs a x y r₁ r₂ p q = p ∙ sym q
+
+pub refused_split_determined : Determined 0 refused-split-kinds.ps refused-split-kinds.r refused-split-reads.Post
+refused_split_determined κs a x y r₁ r₂ p q = p ∙ sym q
+
+pub flat_sheet_determined : Determined 0 flat-sheet-kinds.ps flat-sheet-kinds.r flat-sheet-reads.Post
+flat_sheet_determined κs a x y r₁ r₂ p q = p ∙ sym q
+
+pub no_reason_determined : Determined 0 no-reason-kinds.ps no-reason-kinds.r no-reason-reads.Post
+no_reason_determined κs a x y r₁ r₂ p q = p ∙ sym q
+
+pub a_reason_determined : Determined 0 a-reason-kinds.ps a-reason-kinds.r a-reason-reads.Post
+a_reason_determined κs a x y r₁ r₂ p q = p ∙ sym q

@@ -5,10 +5,9 @@ use Rattle.paper.specs.Answer.{Refusal, Answer, accepted, refused, Read, ◌leav
 use Rattle.paper.specs.Response.{AfterMode, ended, block_and_format, after_mode}
 use Rattle.paper.specs.WholeMessage.{file_request, routine_request, file_response, routine_response, negative_answer, service_byte, request_byte}
 use Rattle.paper.specs.WholeMessage.{WholeMessage, a_file_request, a_routine_request, a_file_response, a_routine_response, a_negative_answer}
-use Rattle.wire.specs.Refusals.{row}
 use Rattle.message.specs.Service.{service_of}
 use Rattle.message.specs.declared.negative.NegativeAnswer.{NegativeAnswer}
-use Rattle.message.specs.declared.read.MessageAnswer.{MessageAnswer}
+use Rattle.message.specs.declared.read.Message.{Message}
 use Rattle.station.specs.Records.{request_record, response_record, routine_request_record, routine_response_record}
 use Rattle.station.specs.Flat.{bit_of, accepted_request, accepted_response, accepted_routine_request, accepted_routine_response}
 use Rattle.station.specs.declared.records.FileTransferRecord.{FileTransferRecord}
@@ -107,14 +106,13 @@ message_record n (accepted (a_routine_response m leaving t)) = of_routine (servi
 message_record n (accepted (a_negative_answer m leaving t)) = bare_record 0 0 0 (service_byte negative_answer) (request_byte m.service) m.code (pick m.listed 1 0)
 message_record n (refused e) = refused_message e
 
--- ---- the flat form of the code's answer
+-- ---- the record of what the code read
 abbrev pub of_negative : NegativeAnswer → MessageRecord
 of_negative q = bare_record 0 0 0 0x7F (request_byte (service_of q.service)) q.code (bit_of q.listed)
 
-abbrev pub flat_message : MessageAnswer → MessageRecord
-flat_message (MessageAnswer.FileRequest q tail) = of_transfer 0x38 q.file_path_and_name.start (accepted_request q tail)
-flat_message (MessageAnswer.RoutineRequest q) = of_routine 0x31 q.option_record.start (accepted_routine_request q)
-flat_message (MessageAnswer.FileResponse q tail) = of_transfer 0x78 q.max_number_of_block_length.start (accepted_response q tail)
-flat_message (MessageAnswer.RoutineResponse q) = of_routine 0x71 q.status_record.start (accepted_routine_response q)
-flat_message (MessageAnswer.Negative q) = of_negative q
-flat_message (MessageAnswer.Refused e) = refused_message (row e)
+abbrev pub accepted_message : Message → MessageRecord
+accepted_message (Message.FileRequest q tail) = of_transfer 0x38 q.file_path_and_name.start (accepted_request q tail)
+accepted_message (Message.RoutineRequest q) = of_routine 0x31 q.option_record.start (accepted_routine_request q)
+accepted_message (Message.FileResponse q tail) = of_transfer 0x78 q.max_number_of_block_length.start (accepted_response q tail)
+accepted_message (Message.RoutineResponse q) = of_routine 0x71 q.status_record.start (accepted_routine_response q)
+accepted_message (Message.Negative q) = of_negative q

@@ -1,13 +1,14 @@
 // Requests that were joined without lengths, taken apart again.
-ghost use Rattle.std.specs.Prelude.{◌≡◌};
+ghost use Rattle.std.specs.Prelude.{◌≡◌, Ok, Err};
 ghost use Rattle.joined_requests.specs.Split.{answered, found_in};
 ghost use Rattle.archive.specs.Joined.{split_record, SplitInto};
 
-use joined_requests::{SplitAnswer, split_joined};
+use joined_requests::{SplitError, split_joined};
+use station::records::flat;
 
 // How many pieces were found: all of them, or beside a refusal those before it.
 #[repr(C)]
-#[derive(Clone, Copy)]
+#[derive(Clone, Copy, Default)]
 pub struct SplitRecord {
     pub number: u64,
     pub first: u64,
@@ -15,22 +16,28 @@ pub struct SplitRecord {
     pub count: u64,
 }
 
-fn flat_split(a: SplitAnswer) -> SplitRecord
-    ensures { result ≡ split_record (answered a) (found_in a) }
-{
-    match a {
-        SplitAnswer::Accepted(count) => SplitRecord {
-            number: 0,
-            first: 0,
-            second: 0,
+impl From<usize> for SplitRecord {
+    ghost from_gives = { λ count r. r ≡ split_record (answered (Ok count)) (found_in (Ok count)) };
+
+    fn from(count: usize) -> SplitRecord {
+        SplitRecord {
             count: count as u64,
-        },
-        SplitAnswer::Refused(e, found) => SplitRecord {
+            ..SplitRecord::default()
+        }
+    }
+}
+
+impl From<SplitError> for SplitRecord {
+    ghost from_gives = { λ x r. r ≡ split_record (answered (Err x)) (found_in (Err x)) };
+
+    fn from(x: SplitError) -> SplitRecord {
+        let e = x.refusal;
+        SplitRecord {
             number: e.number() as u64,
             first: e.first() as u64,
             second: e.second() as u64,
-            count: found as u64,
-        },
+            count: x.found as u64,
+        }
     }
 }
 
@@ -39,5 +46,5 @@ fn flat_split(a: SplitAnswer) -> SplitRecord
 pub extern "C" fn skr_split_joined(buffer: &[u8], lengths: &mut [u32]) -> SplitRecord
     ensures { SplitInto buffer.now lengths.old result lengths.new }
 {
-    flat_split(split_joined(buffer, lengths))
+    flat(split_joined(buffer, lengths))
 }

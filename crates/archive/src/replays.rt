@@ -1,15 +1,16 @@
 // Recorded transfers: a whole log, and one record after a state.
 ghost use Rattle.std.specs.Prelude.{◌≡◌};
-ghost use Rattle.paper.specs.Replay.{replayed, stepped_once, log_record};
-ghost use Rattle.replay.specs.Replay.{last_of, transfer_of, state_of, ended_said};
-ghost use Rattle.archive.specs.Replays.{open_of, last_in, has_last, counter_of, state_record, replay_record};
-ghost use Rattle.archive.specs.Replays.{transfer_handed, state_handed};
+ghost use Rattle.paper.specs.Replay.{ran, stopped, replayed, stepped_once, log_record};
+ghost use Rattle.wire.specs.Refusals.{row};
+ghost use Rattle.replay.specs.Replay.{transfer_of, state_of};
+ghost use Rattle.archive.specs.Replays.{replay_record, transfer_handed, state_handed};
 
-use replay::{Last, LogRecord, ReplayAnswer, State, StepAnswer, Transfer, run, step};
+use replay::{LogRecord, State, Stopped, Transfer, run, step};
+use station::records::flat;
 
 // The state of a recorded transfer, or beside a refusal the state before it. `open` and `has_last` are 0 or 1; without a last counter `last` is 0.
 #[repr(C)]
-#[derive(Clone, Copy)]
+#[derive(Clone, Copy, Default)]
 pub struct ReplayRecord {
     pub number: u64,
     pub first: u64,
@@ -21,71 +22,36 @@ pub struct ReplayRecord {
     pub total: u64,
 }
 
-fn is_open(transfer: Transfer) -> u64
-    ensures { result ≡ open_of (transfer_of transfer) }
-{
-    match transfer {
-        Transfer::Closed => 0,
-        Transfer::Open(_) => 1,
+impl From<State> for ReplayRecord {
+    ghost from_gives = { λ state r. r ≡ replay_record (ran (state_of state)) };
+
+    fn from(state: State) -> ReplayRecord {
+        let (open, last) = match state.transfer {
+            Transfer::Closed => (0, None),
+            Transfer::Open(last) => (1, last),
+        };
+        ReplayRecord {
+            open,
+            has_last: u64::from(last.is_some()),
+            last: last.map_or(0, u64::from),
+            repeats: state.repeats,
+            total: state.total,
+            ..ReplayRecord::default()
+        }
     }
 }
 
-fn last_in(transfer: Transfer) -> Last
-    ensures { last_of result ≡ last_in (transfer_of transfer) }
-{
-    match transfer {
-        Transfer::Closed => Last::Nothing,
-        Transfer::Open(last) => last,
-    }
-}
+impl From<Stopped> for ReplayRecord {
+    ghost from_gives = { λ x r. r ≡ replay_record (stopped (row x.refusal) (state_of x.before)) };
 
-fn is_there(last: Last) -> u64
-    ensures { result ≡ has_last (last_of last) }
-{
-    match last {
-        Last::Nothing => 0,
-        Last::Counter(_) => 1,
-    }
-}
-
-fn counter(last: Last) -> u64
-    ensures { result ≡ counter_of (last_of last) }
-{
-    match last {
-        Last::Nothing => 0,
-        Last::Counter(c) => c as u64,
-    }
-}
-
-// The state beside these three numbers.
-fn flat_state(number: u64, first: u64, second: u64, state: State) -> ReplayRecord
-    ensures { result ≡ state_record number first second (state_of state) }
-{
-    let transfer = state.transfer;
-    let last = last_in(transfer);
-    ReplayRecord {
-        number,
-        first,
-        second,
-        open: is_open(transfer),
-        has_last: is_there(last),
-        last: counter(last),
-        repeats: state.repeats,
-        total: state.total,
-    }
-}
-
-fn flat_replay(a: ReplayAnswer) -> ReplayRecord
-    ensures { result ≡ replay_record (ended_said a) }
-{
-    match a {
-        ReplayAnswer::Accepted(state) => flat_state(0, 0, 0, state),
-        ReplayAnswer::Refused(e, state) => flat_state(
-            e.number() as u64,
-            e.first() as u64,
-            e.second() as u64,
-            state,
-        ),
+    fn from(x: Stopped) -> ReplayRecord {
+        let e = x.refusal;
+        ReplayRecord {
+            number: e.number() as u64,
+            first: e.first() as u64,
+            second: e.second() as u64,
+            ..x.before.into()
+        }
     }
 }
 
@@ -93,20 +59,18 @@ fn flat_replay(a: ReplayAnswer) -> ReplayRecord
 pub extern "C" fn skr_replay_log(log: &[u8]) -> ReplayRecord
     ensures { result ≡ replay_record (replayed log.now) }
 {
-    flat_replay(run(log))
+    flat(run(log))
 }
 
 // The transfer that is handed over: what is said of a last counter is looked at only where it belongs.
 fn handed(open: bool, has_last: bool, last: u8) -> Transfer
     ensures { transfer_of result ≡ transfer_handed «open» has_last last }
 {
-    if !open {
-        return Transfer::Closed;
+    if open {
+        Transfer::Open(has_last.then_some(last))
+    } else {
+        Transfer::Closed
     }
-    if has_last {
-        return Transfer::Open(Last::Counter(last));
-    }
-    Transfer::Open(Last::Nothing)
 }
 
 // One record after a state. A refusal carries the place that is handed over, and the state is then as it was.
@@ -124,9 +88,8 @@ pub extern "C" fn skr_replay_step(
 ) -> ReplayRecord
     ensures { result ≡ replay_record (stepped_once place (state_handed «open» has_last last repeats total) (log_record service kind_or_counter payload)) }
 {
-    let transfer = handed(open, has_last, last);
     let state = State {
-        transfer,
+        transfer: handed(open, has_last, last),
         repeats,
         total,
     };
@@ -136,7 +99,11 @@ pub extern "C" fn skr_replay_step(
         payload,
     };
     match step(state, record, place) {
-        StepAnswer::Accepted(next) => flat_replay(ReplayAnswer::Accepted(next)),
-        StepAnswer::Refused(e) => flat_replay(ReplayAnswer::Refused(e, state)),
+        Ok(next) => next.into(),
+        Err(refusal) => Stopped {
+            refusal,
+            before: state,
+        }
+        .into(),
     }
 }

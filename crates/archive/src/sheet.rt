@@ -1,10 +1,8 @@
 // The year's sheet of refusals.
 ghost use Rattle.std.specs.Prelude.{◌≡◌};
 ghost use Rattle.paper.specs.Tally.{tallied};
-ghost use Rattle.archive.specs.Sheets.{tally_record};
-ghost use Rattle.archive.specs.Sheets.{flat_sheet};
+ghost use Rattle.archive.specs.Sheets.{flat_sheet, tally_record};
 
-use tally::Tallied;
 use tally::sheet::{Sheet, sheet_of};
 
 // A sheet of records counted: month by month, ten counts each.
@@ -17,24 +15,25 @@ pub struct TallyRecord {
     pub cells: [u32; 120],
 }
 
-fn flat_sheet(a: Sheet) -> TallyRecord
-    ensures { result ≡ flat_sheet a }
-{
-    let verdict = a.verdict;
-    let cells = a.cells;
-    match verdict {
-        Tallied::Counted => TallyRecord {
-            number: 0,
-            first: 0,
-            second: 0,
-            cells: cells,
-        },
-        Tallied::Refused(e) => TallyRecord {
-            number: e.number() as u64,
-            first: e.first() as u64,
-            second: e.second() as u64,
-            cells: cells,
-        },
+impl From<Sheet> for TallyRecord {
+    ghost from_gives = { λ a r. r ≡ flat_sheet a };
+
+    fn from(a: Sheet) -> TallyRecord {
+        let cells = a.cells;
+        match a.verdict {
+            Ok(()) => TallyRecord {
+                number: 0,
+                first: 0,
+                second: 0,
+                cells,
+            },
+            Err(e) => TallyRecord {
+                number: e.number() as u64,
+                first: e.first() as u64,
+                second: e.second() as u64,
+                cells,
+            },
+        }
     }
 }
 
@@ -43,5 +42,5 @@ fn flat_sheet(a: Sheet) -> TallyRecord
 pub extern "C" fn skr_tally_records(records: &[u8]) -> TallyRecord
     ensures { result ≡ tally_record (tallied records.now) }
 {
-    flat_sheet(sheet_of(records))
+    sheet_of(records).into()
 }

@@ -37,6 +37,20 @@ use Rattle.parts.proofs.write.skr_write_dir_size.Reads as write-dir-size-reads
 use Rattle.parts.specs.contracts.write.skr_write_position as write-position
 use Rattle.parts.proofs.write.skr_write_position.Kinds as write-position-kinds
 use Rattle.parts.proofs.write.skr_write_position.Reads as write-position-reads
+use Rattle.parts.proofs.read.PartRecordFromTuple2PlaceUsize.from.Kinds as accepted-part-kinds
+use Rattle.parts.proofs.read.PartRecordFromTuple2PlaceUsize.from.Reads as accepted-part-reads
+use Rattle.parts.proofs.read.PartRecordFromRefusal.from.Kinds as refused-part-kinds
+use Rattle.parts.proofs.read.PartRecordFromRefusal.from.Reads as refused-part-reads
+use Rattle.parts.proofs.read.SizesRecordFromTuple2TwoSizesUsize.from.Kinds as accepted-sizes-kinds
+use Rattle.parts.proofs.read.SizesRecordFromTuple2TwoSizesUsize.from.Reads as accepted-sizes-reads
+use Rattle.parts.proofs.read.SizesRecordFromTuple2SizeUsize.from.Kinds as accepted-size-kinds
+use Rattle.parts.proofs.read.SizesRecordFromTuple2SizeUsize.from.Reads as accepted-size-reads
+use Rattle.parts.proofs.read.SizesRecordFromRefusal.from.Kinds as refused-sizes-kinds
+use Rattle.parts.proofs.read.SizesRecordFromRefusal.from.Reads as refused-sizes-reads
+use Rattle.parts.proofs.read.PositionRecordFromTuple2U64Usize.from.Kinds as accepted-position-kinds
+use Rattle.parts.proofs.read.PositionRecordFromTuple2U64Usize.from.Reads as accepted-position-reads
+use Rattle.parts.proofs.read.PositionRecordFromRefusal.from.Kinds as refused-position-kinds
+use Rattle.parts.proofs.read.PositionRecordFromRefusal.from.Reads as refused-position-reads
 
 -- ---- readers
 pub read_name_determined : Determined 1 read-name-kinds.ps read-name-kinds.r read-name-reads.Post
@@ -81,3 +95,25 @@ write_dir_size_determined κs a x y r s p q = (p.0 ∙ sym q.0, p.1 ∙ sym q.1)
 pub write_position_determined : (κs : Lfts 1) (a : ArgsD write-position.signature κs) (x y : AtExit (ended_of 1 write-position-kinds.ps write-position-kinds.r) κs) (r s : WrittenRecord)
     → write-position-reads.Post κs a r x → write-position-reads.Post κs a s y → (r ≡ s) × (x.1.0.now ≡ y.1.0.now)
 write_position_determined κs a x y r s p q = (p.0 ∙ sym q.0, p.1 ∙ sym q.1)
+
+-- ---- the conversions
+pub accepted_part_determined : Determined 0 accepted-part-kinds.ps accepted-part-kinds.r accepted-part-reads.Post
+accepted_part_determined κs a x y r₁ r₂ p q = p ∙ sym q
+
+pub refused_part_determined : Determined 0 refused-part-kinds.ps refused-part-kinds.r refused-part-reads.Post
+refused_part_determined κs a x y r₁ r₂ p q = p ∙ sym q
+
+pub accepted_sizes_determined : Determined 0 accepted-sizes-kinds.ps accepted-sizes-kinds.r accepted-sizes-reads.Post
+accepted_sizes_determined κs a x y r₁ r₂ p q = p ∙ sym q
+
+pub accepted_size_determined : Determined 0 accepted-size-kinds.ps accepted-size-kinds.r accepted-size-reads.Post
+accepted_size_determined κs a x y r₁ r₂ p q = p ∙ sym q
+
+pub refused_sizes_determined : Determined 0 refused-sizes-kinds.ps refused-sizes-kinds.r refused-sizes-reads.Post
+refused_sizes_determined κs a x y r₁ r₂ p q = p ∙ sym q
+
+pub accepted_position_determined : Determined 0 accepted-position-kinds.ps accepted-position-kinds.r accepted-position-reads.Post
+accepted_position_determined κs a x y r₁ r₂ p q = p ∙ sym q
+
+pub refused_position_determined : Determined 0 refused-position-kinds.ps refused-position-kinds.r refused-position-reads.Post
+refused_position_determined κs a x y r₁ r₂ p q = p ∙ sym q

@@ -1,9 +1,14 @@
--- `archive::batches::skr_read_batch` meets its contract: the flat form of what the batch was answered, and the list as it was left.
-use mathlib.Core.Path.{ap, ◌∙◌}
+-- `archive::batches::skr_read_batch` meets its contract: the record of what the batch was answered, and the list as it was left.
+use mathlib.Core.Path.{sym, ap, ◌∙◌}
 use Rattle.paper.specs.Batch.{read_batch}
+use Rattle.wire.specs.Writing.{told}
 use Rattle.archive.specs.Batches.{batch_record}
 use Rattle.archive.proofs.batches.skr_read_batch.Goals as goal
 
-pub returns : goal.returns
+pub returns-in-Ok : goal.returns-in-Ok
 unfolding read_batch
-returns c = let wrote = c.read_batch.ensures in (c.flat_batch.ensures ∙ ap batch_record wrote.answer, wrote.contents)
+returns-in-Ok c = let wrote = c.read_batch.ensures in (c.from.ensures ∙ ap batch_record (sym (ap told c.in-Ok.is) ∙ wrote.answer), wrote.contents)
+
+pub returns-in-Err : goal.returns-in-Err
+unfolding read_batch
+returns-in-Err c = let wrote = c.read_batch.ensures in (c.into.ensures ∙ ap batch_record (sym (ap told c.in-Err.is) ∙ wrote.answer), wrote.contents)

@@ -1,7 +1,6 @@
--- `archive::messages::skr_read_message` meets its contract: what was read is right, so its flat form is that of the paper's answer.
-use mathlib.Core.Path.{◌∙◌}
+-- `archive::messages::skr_read_message` meets its contract: what was read is right, so its record is that of the paper's answer.
 use Rattle.archive.proofs.Whole.{message_flat}
 use Rattle.archive.proofs.messages.skr_read_message.Goals as goal
 
 pub returns : goal.returns
-returns c = c.flat_message.ensures ∙ message_flat _ c.read_message.result c.read_message.ensures
+returns c = message_flat _ c.read_message.result c.read_message.ensures c.flat.ensures

@@ -1,7 +1,8 @@
--- `archive::why::skr_why_request` meets its contract: the flat form of the reason.
-use mathlib.Core.Path.{ap, ◌∙◌}
+-- `archive::why::skr_why_request` meets its contract: the record of the reason is that of the paper's.
+use Rattle.reason.specs.Reason.{why_said}
+use Rattle.station.proofs.Flats.{flat_said}
 use Rattle.archive.specs.Why.{why_record}
 use Rattle.archive.proofs.why.skr_why_request.Goals as goal
 
 pub returns : goal.returns
-returns c = c.flat_why.ensures ∙ ap why_record c.why_request.ensures
+returns c = flat_said why_record why_said c.why_request.result c.why_request.ensures c.flat.ensures
