@@ -1,19 +1,16 @@
--- What the paper's reader of responses answers, by cases, what a response with no sizes means, and what a reader answers that leaves by `?`.
+-- What the paper's reader of responses answers, by cases, what a response with no sizes means, and what whoever leaves by `?` answers.
 -- Assumes nothing.
 use mathlib.Core.Path.{◌≡◌, ap}
 use Prim.Native.Nat.{ℕ}
 use mathlib.Core.List.{List}
-use lib.ListN.{drop}
 use Rattle.std.specs.Prelude.{Result, Ok, Err}
 use Rattle.std.specs.Result.{IsErrAnd}
-use Rattle.paper.specs.Answer.{Refusal, Answer, accepted, refused, Read, ◌leaving◌, Reader, give, refuse, hand_out}
+use Rattle.paper.specs.Answer.{Refusal, Answer, accepted, refused, Read, ◌leaving◌, give, refuse, hand_out}
 use Rattle.paper.specs.Kind.{Kind, known}
 use Rattle.paper.specs.Field.{byte}
 use Rattle.paper.specs.Response.{Response, response, AfterMode, after_mode, read_after_mode, read_response}
 use Rattle.paper.proofs.Places.{on, off}
 use Rattle.wire.specs.Size.{value}
-use Rattle.wire.specs.Refusals.{row}
-use Rattle.wire.specs.Reading.{Seen, Right}
 use Rattle.wire.specs.declared.refusal.Refusal as code
 use Rattle.request_file_transfer_response.specs.Reading.{with_more}
 use Rattle.request_file_transfer_response.specs.declared.read.More.{More}
@@ -22,11 +19,6 @@ use Rattle.request_file_transfer_response.specs.declared.read.More.{More}
 pub err_is : {A : Type 0} (r : Result A code.Refusal) (e : code.Refusal) → IsErrAnd r (λ (x : code.Refusal). x ≡ e) → r ≡ Err e
 err_is (Ok x) e none = absurd none
 err_is (Err x) e is = ap Err is
-
--- and where that is the field's, it is the answer to the field
-pub leaves : {A M : Type 0} {meaning : A → M} {field : Reader M} {Place : A → ℕ → Type 0} {s : List ℕ} {at : ℕ} (r : Seen A) (e : code.Refusal)
-    → IsErrAnd r (λ (x : code.Refusal). x ≡ e) → refused (row e) ≡ field (drop at s) → Right A M meaning field Place s at r
-leaves r e is said = rw (err_is r e is) (record { paper = said; place = tt })
 
 -- a position alone
 pub no_sizes : (k : Kind) (b : List ℕ) (f : ℕ) (x : More) {p : ℕ} {t : List ℕ}

@@ -9,12 +9,15 @@ use denote.Triple.Clauses.{AtExit}
 use borrow.Fn.Kinds.{Dens, ended_of}
 use borrow.Fn.World.{ArgsD}
 use lib.ListN.{length}
-use Rattle.std.specs.Prelude.{Result, Option, Some, None}
+use Rattle.std.specs.Prelude.{Result, Ok, Err, Option, Some, None}
 use Rattle.paper.specs.Response as paper
 use Rattle.paper.specs.Response.{Response, nothing, two_sizes, one_size, one_position, ended, block_and_format, after_mode}
 use Rattle.wire.specs.Reading.{Seen}
 use Rattle.wire.specs.declared.refusal.Refusal.{Refusal}
 use Rattle.wire.specs.declared.size.Size.{Size}
+use Rattle.paper.proofs.Choice.{never}
+use Rattle.wire.specs.Refusals.{row}
+use Rattle.wire.proofs.Refusals.{refusal_back, refusal-back}
 use Rattle.wire.proofs.Unique.{Determined, once, place_of, place_back}
 use Rattle.wire.proofs.UniqueHeld.{Alike, alike, Settled, settled}
 use Rattle.wire.proofs.UniqueWriting.{answer_back, answer_back_lem, wrote_once}
@@ -22,9 +25,11 @@ use Rattle.file_operation.specs.declared.payload.DirSizePayload.{DirSizePayload}
 use Rattle.file_operation.proofs.Unique.{kind_back, kind-back, format_of, file_sizes_back, file-sizes-back, part_back, part-back}
 use Rattle.file_operation.proofs.UniqueRewriting.{rewrote_once}
 use Rattle.request_file_transfer_response.specs.Layout.{more_of, layout_of}
+use Rattle.request_file_transfer_response.specs.BlockLength.{HoldsGood}
 use Rattle.request_file_transfer_response.specs.Reading.{block_start, meant, Placed}
 use Rattle.request_file_transfer_response.specs.declared.layout.AfterFormat.{AfterFormat}
 use Rattle.request_file_transfer_response.specs.declared.read.RequestFileTransferResponse.{RequestFileTransferResponse}
+use Rattle.request_file_transfer_response.specs.declared.sent_data.SentDataPayload.{SentDataPayload}
 use Rattle.request_file_transfer_response.proofs.layout.after_mode.Kinds as after-mode-kinds
 use Rattle.request_file_transfer_response.proofs.layout.after_mode.Reads as after-mode
 use Rattle.request_file_transfer_response.proofs.read.RequestFileTransferResponse.dir_size.Kinds as dir-size-kinds
@@ -37,6 +42,7 @@ use Rattle.request_file_transfer_response.proofs.sent_data.good_block_length.Kin
 use Rattle.request_file_transfer_response.proofs.sent_data.good_block_length.Reads as good-block-length
 use Rattle.request_file_transfer_response.specs.contracts.sent_data.SentDataPayload.of_response as of-response
 use Rattle.request_file_transfer_response.specs.contracts.sent_data.SentDataPayload.new as new
+use Rattle.request_file_transfer_response.specs.contracts.sent_data.SentDataPayloadTryFromRefSliceU8.try_from as try-from
 use Rattle.request_file_transfer_response.specs.contracts.sent_data.SentDataPayload.max_number_of_block_length as max-number-of-block-length
 use Rattle.request_file_transfer_response.specs.contracts.sent_data.SentDataPayload.held as held
 use Rattle.request_file_transfer_response.proofs.sent_data.response_block_length.Kinds as response-block-length-kinds
@@ -129,6 +135,19 @@ of_response_determined M 𝓤 𝓛 mem run κs a g x y r₁ r₂ = settled 𝓤 
 
 pub new_determined : Settled new.ended (λ M 𝓤 𝓛. new.clauses 𝓛) (λ κs r₁ r₂. Alike r₁.max_number_of_block_length r₂.max_number_of_block_length)
 new_determined M 𝓤 𝓛 mem run κs a g x y r₁ r₂ = settled 𝓤 (alike r₁.max_number_of_block_length r₂.max_number_of_block_length)
+
+-- the record of a slice, or the refusal
+abbrev record_of : Bor (List ℕ) → SentDataPayload
+record_of b = record { max_number_of_block_length = b }
+
+held-once : (block : Bor (List ℕ)) (r₁ r₂ : Result SentDataPayload Refusal) → HoldsGood block r₁ → HoldsGood block r₂ → r₁ ≡ r₂
+held-once block (Ok x) (Ok y) p q = ap (λ (b : Bor (List ℕ)). Ok (record_of b)) (p.0 ∙ sym q.0)
+held-once block (Ok x) (Err e) p q = absurd (never (sym q ∙ p.1))
+held-once block (Err e) (Ok x) p q = absurd (never (sym p ∙ q.1))
+held-once block (Err d) (Err e) p q = let same : row d ≡ row e = cc in ap Err (sym (refusal-back d) ∙ ap refusal_back same ∙ refusal-back e)
+
+pub try_from_determined : Settled try-from.ended (λ M 𝓤 𝓛. try-from.clauses 𝓛) (λ κs r₁ r₂. r₁ ≡ r₂)
+try_from_determined M 𝓤 𝓛 mem run κs a g x y r₁ r₂ = settled 𝓤 (held-once a.0 r₁ r₂)
 
 -- the slice of a record
 pub max_number_of_block_length_determined : Settled max-number-of-block-length.ended (λ M 𝓤 𝓛. max-number-of-block-length.clauses 𝓛) (λ κs r₁ r₂. r₁ ≡ r₂)

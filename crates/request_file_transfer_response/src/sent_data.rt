@@ -1,11 +1,11 @@
 // The block length record: that very part of the caller's buffer, found to be a block length, and nothing else.
-// An enum cannot hold it, so beside each of its two makers stands the call that says whether there is one: `block_length_place` beside `of_response`, `good_block_length` beside `new`.
+// Each of its two makers always makes one. Whether there is a block length says `block_length_place` beside `of_response`, and `try_from` beside `new`.
 ghost use Rattle.std.specs.Prelude.{◌≡◌};
 ghost use Rattle.paper.specs.Response.{good_block_length};
 ghost use Rattle.wire.specs.Writing.{told};
 ghost use Rattle.file_operation.specs.Part.{part_said, Kept};
 ghost use Rattle.file_operation.specs.Writing.{length_in};
-ghost use Rattle.request_file_transfer_response.specs.BlockLength.{block_length_place, IsBlockLengthOf};
+ghost use Rattle.request_file_transfer_response.specs.BlockLength.{block_length_place, IsBlockLengthOf, HoldsGood};
 
 use crate::read::read_response;
 use file_operation::part::{kept_after, or_empty};
@@ -73,6 +73,20 @@ impl<'a> SentDataPayload<'a> {
         ensures { result ≡ self.now.max_number_of_block_length }
     {
         self.max_number_of_block_length
+    }
+}
+
+// Holds the very slice that it is lent, or answers why it is no block length.
+impl<'a> TryFrom<&'a [u8]> for SentDataPayload<'a> {
+    type Error = Refusal;
+
+    ghost try_from_gives = { λ block r. HoldsGood block r };
+
+    fn try_from(block: &'a [u8]) -> Result<SentDataPayload<'a>, Refusal> {
+        good_block_length(block)?;
+        Ok(SentDataPayload {
+            max_number_of_block_length: block,
+        })
     }
 }
 

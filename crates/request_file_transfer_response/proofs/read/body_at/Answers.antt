@@ -4,7 +4,8 @@ use mathlib.Core.List.{[]}
 use native.Mathlib.Omega.{arith}
 use Rattle.paper.specs.Field.{block_length, byte}
 use Rattle.paper.proofs.Places.{on, off}
-use Rattle.request_file_transfer_response.proofs.Cases.{leaves, no_sizes}
+use Rattle.wire.proofs.Left.{leaves}
+use Rattle.request_file_transfer_response.proofs.Cases.{no_sizes}
 use Rattle.request_file_transfer_response.proofs.read.body_at.Goals as goal
 
 pub returns-in_default : goal.returns-in_default

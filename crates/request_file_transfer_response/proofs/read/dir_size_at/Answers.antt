@@ -4,7 +4,7 @@ use native.Mathlib.Omega.{arith}
 use Rattle.paper.specs.Answer.{give}
 use Rattle.paper.specs.Field.{size_group}
 use Rattle.paper.proofs.Places.{on, off}
-use Rattle.request_file_transfer_response.proofs.Cases.{leaves}
+use Rattle.wire.proofs.Left.{leaves}
 use Rattle.request_file_transfer_response.proofs.read.dir_size_at.Goals as goal
 
 pub returns-in_err-file_size_uncompressed : goal.returns-in_err-file_size_uncompressed

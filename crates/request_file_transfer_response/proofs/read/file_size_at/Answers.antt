@@ -3,7 +3,7 @@ use mathlib.Core.Path.{refl}
 use Rattle.paper.specs.Answer.{give}
 use Rattle.paper.specs.Field.{size_group}
 use Rattle.paper.proofs.Places.{on, off}
-use Rattle.request_file_transfer_response.proofs.Cases.{leaves}
+use Rattle.wire.proofs.Left.{leaves}
 use Rattle.request_file_transfer_response.proofs.read.file_size_at.Goals as goal
 
 pub returns-in_err-sizes : goal.returns-in_err-sizes

@@ -2,7 +2,8 @@
 use native.Mathlib.Omega.{arith}
 use Rattle.paper.specs.Field.{number}
 use Rattle.paper.proofs.Places.{on, off}
-use Rattle.request_file_transfer_response.proofs.Cases.{leaves, no_sizes}
+use Rattle.wire.proofs.Left.{leaves}
+use Rattle.request_file_transfer_response.proofs.Cases.{no_sizes}
 use Rattle.request_file_transfer_response.proofs.read.position_at.Goals as goal
 
 pub returns-in_err-file_position : goal.returns-in_err-file_position

@@ -1,7 +1,8 @@
 -- `request_file_transfer_response::read::read_response` meets its contract: its answers are the cases of a response, by its mode and what stands after it.
 use mathlib.Core.Path.{ap₂, ◌∙◌}
 use Rattle.request_file_transfer_response.specs.Reading.{block_start}
-use Rattle.request_file_transfer_response.proofs.Cases.{leaves, no_mode_lem, no_kind, by_kind}
+use Rattle.wire.proofs.Left.{leaves}
+use Rattle.request_file_transfer_response.proofs.Cases.{no_mode_lem, no_kind, by_kind}
 use Rattle.request_file_transfer_response.proofs.read.read_response.Goals as goal
 
 pub returns-in_err-mode : goal.returns-in_err-mode
