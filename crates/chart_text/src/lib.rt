@@ -1,4 +1,5 @@
 // What the program `wrong_loads_chart` prints of the year's records: a picture of the year, as an SVG.
+// Each function adds its part to the text that stands in `out` up to `at`, as those of `form` do, and for their reason takes both.
 #![tactic(auto)]
 
 mod bars;
