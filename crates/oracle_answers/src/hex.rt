@@ -17,13 +17,9 @@ fn digit(c: u8) -> u8
 pub(crate) fn bytes_of(text: &[u8], out: &mut [u8]) -> usize
     ensures { IsPrefixLen result out.new }
 {
-    let mut i = 0;
-    while i < text.len() / 2 {
-        if out.len() <= i {
-            break;
-        }
-        out[i] = digit(text[2 * i]) * 16 + digit(text[2 * i + 1]);
-        i += 1;
+    let (pairs, _) = text.as_chunks::<2>();
+    for (pair, byte) in pairs.iter().zip(out.iter_mut()) {
+        *byte = digit(pair[0]) * 16 + digit(pair[1]);
     }
-    i
+    pairs.len().min(out.len())
 }

@@ -6,7 +6,9 @@ mod hex;
 mod line;
 
 use count::Tally;
+use std::fs::File;
 use std::io::{Read, Result};
+use streams::Case;
 
 // As many as are read; a list has fewer.
 const PAGES: usize = 64;
@@ -19,7 +21,7 @@ fn next_page(rt: &impl Print, file: &mut impl Read, t: Tally) -> Result<Tally> {
 }
 
 fn pages(rt: &impl Print, file: &mut impl Read) -> Result<Tally> {
-    let mut t = count::start();
+    let mut t = Tally::start();
     for _ in 0..PAGES {
         t = next_page(rt, file, t)?;
     }
@@ -31,20 +33,18 @@ fn goes_on(file: &mut impl Read) -> Result<bool> {
     Ok(streams::read_full(file, &mut rest)? > 0)
 }
 
-fn replay(rt: &impl Print, file: &mut impl Read) -> Result<()> {
-    let t = pages(rt, file)?;
-    count::sum_up(rt, t)?;
-    if goes_on(file)? {
-        rt.write_all(b"the file goes on, and was not read to its end\n")?;
+struct RecordedAnswers;
+
+impl Case for RecordedAnswers {
+    fn print(&self, rt: &HostRuntime, _path: &[u8], file: &mut File) -> Result<()> {
+        pages(rt, file)?.sum_up(rt)?;
+        if goes_on(file)? {
+            rt.write_all(b"the file goes on, and was not read to its end\n")?;
+        }
+        Ok(())
     }
-    Ok(())
 }
 
 fn main(rt: HostRuntime) -> Result<()> {
-    let mut path = [0u8; 4096];
-    let n = streams::argument(&rt, 1, &mut path);
-    match streams::open_read(&rt, &path[..n]) {
-        Ok(mut file) => replay(&rt, &mut file),
-        Err(error) => streams::fail(&mut rt.stderr(), rt.alloc(), &path[..n], &error),
-    }
+    RecordedAnswers.print_argument(&rt, 1)
 }

@@ -1,7 +1,7 @@
 // Reads one file transfer message from standard input, to its end, and prints why it is refused, or that it is accepted; its one argument is `request` or `response`.
 #![tactic(auto)]
 
-use reason_line::sort::{Sort, SortAnswer, sort_named};
+use reason_line::sort::{Sort, sort_named};
 use reason_line::text::{usage_text, why_text};
 use std::io;
 use std::rt::Env;
@@ -21,18 +21,15 @@ fn print_usage(err: &impl Print) -> io::Result<()> {
 }
 
 // The sort that the one argument names; none where there is no argument or more than one.
-fn sort_asked(rt: &impl Env) -> SortAnswer {
-    if streams::argument_count(rt, 3) != 2 {
-        return SortAnswer::Unknown;
-    }
+fn sort_asked(rt: &impl Env) -> Option<Sort> {
     let mut word = [0u8; 4096];
-    let n = streams::argument(rt, 1, &mut word);
+    let n = streams::lone_argument(rt, &mut word)?;
     sort_named(&word[..n])
 }
 
 fn main(rt: HostRuntime) -> io::Result<()> {
     match sort_asked(&rt) {
-        SortAnswer::Named(sort) => print_line(&rt, sort),
-        SortAnswer::Unknown => print_usage(&rt.stderr()),
+        Some(sort) => print_line(&rt, sort),
+        None => print_usage(&rt.stderr()),
     }
 }
