@@ -4,15 +4,18 @@ use Prim.Native.Nat.{ℕ}
 use mathlib.Core.Path.{◌≡◌, refl, sym, ap}
 use mathlib.Core.List.{List}
 use mathlib.Core.Option.{Option}
+use Rattle.std.specs.Prelude.{Result, Ok, Err}
 use Rattle.paper.specs.Answer.{Refusal, Answer, accepted, refused}
 use Rattle.paper.specs.TroubleCode.{TroubleCode}
 use Rattle.paper.specs.Listing.{SubFunction, Listing, Listed, read_listing, Head, head_of, record_at, Index, index_in, look_up_in, look_up, write_handed}
 use Rattle.paper.specs.CodeText.{export_in, export_listing}
 use Rattle.paper.proofs.Choice.{never}
 use Rattle.wire.specs.Refusals.{row}
+use Rattle.wire.specs.declared.refusal.Refusal as wire
 use Rattle.listing.specs.Listing.{head_said}
 use Rattle.listing.specs.Index.{IndexedRight, numbers_in}
-use Rattle.listing.specs.declared.ListingAnswer.{ListingAnswer}
+use Rattle.dtc.specs.declared.status.Mask.{Mask}
+use Rattle.dtc.specs.declared.status.Status.{Status}
 use Rattle.listing.specs.declared.index.Indexed.{Indexed}
 use Rattle.station.specs.Handed.{where_known}
 use Rattle.workshop.specs.Listings.{listing_sub, read_known, listing_handed, write_sub_handed, place_record, listed_record, refused_listed, index_record, flat_index}
@@ -60,18 +63,19 @@ not_placed k (accepted l) e = absurd (never e)
 not_placed k (refused x) {e = y} q = let same : y ≡ x = cc in ap refused_listed same
 
 -- ---- an index
-pub index_flat : (a : Answer Listing) (r : Indexed) → IndexedRight a r → flat_index r.listing r.counts r.firsts ≡ index_record a
+pub index_flat : (a : Answer Listing) (r : Indexed) → IndexedRight a r → flat_index r.listing r.index.counts r.index.firsts ≡ index_record a
 index_flat a r h = by r.listing refl a h.head h.index
   where
-    lists : (n x y : ℕ) {i : Index} → numbers_in r.counts r.firsts ≡ i
-        → ◌≡◌ {A = IndexRecord} (record { number = n; first = x; second = y; counts = r.counts; firsts = r.firsts }) (record { number = n; first = x; second = y; counts = i.counts; firsts = i.firsts })
+    lists : (n x y : ℕ) {i : Index} → numbers_in r.index.counts r.index.firsts ≡ i
+        → ◌≡◌ {A = IndexRecord} (record { number = n; first = x; second = y; counts = r.index.counts; firsts = r.index.firsts }) (record { number = n; first = x; second = y; counts = i.counts; firsts = i.firsts })
     lists n x y e = ap (λ (i : Index). record { number = n; first = x; second = y; counts = i.counts; firsts = i.firsts }) e
 
-    by : (l : ListingAnswer) → r.listing ≡ l → (a : Answer Listing) → head_said r.listing ≡ head_of a → numbers_in r.counts r.firsts ≡ index_in a → flat_index r.listing r.counts r.firsts ≡ index_record a
-    by (ListingAnswer.Accepted m n) e (accepted l) p q = rw e (lists 0 0 0 q)
-    by (ListingAnswer.Accepted m n) e (refused x) p q = absurd (never (sym (rw e at p)))
-    by (ListingAnswer.Refused x) e (accepted l) p q = absurd (never (rw e at p))
-    by (ListingAnswer.Refused x) e (refused y) p q =
+    by : (l : Result (Mask Status × ℕ) wire.Refusal) → r.listing ≡ l → (a : Answer Listing) → head_said r.listing ≡ head_of a → numbers_in r.index.counts r.index.firsts ≡ index_in a
+        → flat_index r.listing r.index.counts r.index.firsts ≡ index_record a
+    by (Ok head) e (accepted l) p q = rw e (lists 0 0 0 q)
+    by (Ok head) e (refused x) p q = absurd (never (sym (rw e at p)))
+    by (Err x) e (accepted l) p q = absurd (never (rw e at p))
+    by (Err x) e (refused y) p q =
         let both : ◌≡◌ {A = Answer Head} (refused (row x)) (refused y) = rw e at p in
         let same : row x ≡ y = cc in
         rw (e, same) (lists _ _ _ q)

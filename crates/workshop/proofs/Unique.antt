@@ -33,6 +33,28 @@ use Rattle.workshop.proofs.texts.skr_export_listing.Reads as export-listing-read
 use Rattle.workshop.specs.contracts.texts.skr_import_listing as import-listing
 use Rattle.workshop.proofs.texts.skr_import_listing.Kinds as import-listing-kinds
 use Rattle.workshop.proofs.texts.skr_import_listing.Reads as import-listing-reads
+use Rattle.workshop.proofs.listings.ListingRecordFromTuple2DtcStatusMaskUsize.from.Kinds as accepted-listing-kinds
+use Rattle.workshop.proofs.listings.ListingRecordFromTuple2DtcStatusMaskUsize.from.Reads as accepted-listing-reads
+use Rattle.workshop.proofs.listings.ListingRecordFromRefusal.from.Kinds as refused-listing-kinds
+use Rattle.workshop.proofs.listings.ListingRecordFromRefusal.from.Reads as refused-listing-reads
+use Rattle.workshop.proofs.listings.ListedRecordFromListed.from.Kinds as found-listed-kinds
+use Rattle.workshop.proofs.listings.ListedRecordFromListed.from.Reads as found-listed-reads
+use Rattle.workshop.proofs.listings.ListedRecordFromOptionListed.from.Kinds as placed-listed-kinds
+use Rattle.workshop.proofs.listings.ListedRecordFromOptionListed.from.Reads as placed-listed-reads
+use Rattle.workshop.proofs.listings.ListedRecordFromRefusal.from.Kinds as refused-listed-kinds
+use Rattle.workshop.proofs.listings.ListedRecordFromRefusal.from.Reads as refused-listed-reads
+use Rattle.workshop.proofs.listings.IndexRecordFromIndexed.from.Kinds as flat-index-kinds
+use Rattle.workshop.proofs.listings.IndexRecordFromIndexed.from.Reads as flat-index-reads
+use Rattle.workshop.proofs.listings.IndexRecordFromRefusal.from.Kinds as refused-index-kinds
+use Rattle.workshop.proofs.listings.IndexRecordFromRefusal.from.Reads as refused-index-reads
+use Rattle.workshop.proofs.listings.LookUpRecordFromTuple2UsizeListed.from.Kinds as found-look-up-kinds
+use Rattle.workshop.proofs.listings.LookUpRecordFromTuple2UsizeListed.from.Reads as found-look-up-reads
+use Rattle.workshop.proofs.listings.LookUpRecordFromRefusal.from.Kinds as refused-look-up-kinds
+use Rattle.workshop.proofs.listings.LookUpRecordFromRefusal.from.Reads as refused-look-up-reads
+use Rattle.workshop.proofs.changes.ChangesRecordFromUsize.from.Kinds as accepted-changes-kinds
+use Rattle.workshop.proofs.changes.ChangesRecordFromUsize.from.Reads as accepted-changes-reads
+use Rattle.workshop.proofs.changes.ChangesRecordFromChangesRefusal.from.Kinds as refused-changes-kinds
+use Rattle.workshop.proofs.changes.ChangesRecordFromChangesRefusal.from.Reads as refused-changes-reads
 
 -- ---- readers and questions
 pub read_listing_determined : Determined 1 read-listing-kinds.ps read-listing-kinds.r read-listing-reads.Post
@@ -71,3 +93,37 @@ import_listing_determined κs a x y r s p q = (p.0 ∙ sym q.0, p.1 ∙ sym q.1)
 pub listing_changes_determined : (κs : Lfts 3) (a : ArgsD listing-changes.signature κs) (x y : AtExit (ended_of 3 listing-changes-kinds.ps listing-changes-kinds.r) κs) (r s : ChangesRecord)
     → listing-changes-reads.Post κs a r x → listing-changes-reads.Post κs a s y → (r ≡ s) × (x.1.1.1.1.0.now ≡ y.1.1.1.1.0.now)
 listing_changes_determined κs a x y r s p q = (p.0 ∙ sym q.0, p.1 ∙ sym q.1)
+
+-- ---- the conversions
+pub accepted_listing_determined : Determined 0 accepted-listing-kinds.ps accepted-listing-kinds.r accepted-listing-reads.Post
+accepted_listing_determined κs a x y r₁ r₂ p q = p ∙ sym q
+
+pub refused_listing_determined : Determined 0 refused-listing-kinds.ps refused-listing-kinds.r refused-listing-reads.Post
+refused_listing_determined κs a x y r₁ r₂ p q = p ∙ sym q
+
+pub found_listed_determined : Determined 0 found-listed-kinds.ps found-listed-kinds.r found-listed-reads.Post
+found_listed_determined κs a x y r₁ r₂ p q = p ∙ sym q
+
+pub placed_listed_determined : Determined 0 placed-listed-kinds.ps placed-listed-kinds.r placed-listed-reads.Post
+placed_listed_determined κs a x y r₁ r₂ p q = p ∙ sym q
+
+pub refused_listed_determined : Determined 0 refused-listed-kinds.ps refused-listed-kinds.r refused-listed-reads.Post
+refused_listed_determined κs a x y r₁ r₂ p q = p ∙ sym q
+
+pub flat_index_determined : Determined 0 flat-index-kinds.ps flat-index-kinds.r flat-index-reads.Post
+flat_index_determined κs a x y r₁ r₂ p q = p ∙ sym q
+
+pub refused_index_determined : Determined 0 refused-index-kinds.ps refused-index-kinds.r refused-index-reads.Post
+refused_index_determined κs a x y r₁ r₂ p q = p ∙ sym q
+
+pub found_look_up_determined : Determined 0 found-look-up-kinds.ps found-look-up-kinds.r found-look-up-reads.Post
+found_look_up_determined κs a x y r₁ r₂ p q = p ∙ sym q
+
+pub refused_look_up_determined : Determined 0 refused-look-up-kinds.ps refused-look-up-kinds.r refused-look-up-reads.Post
+refused_look_up_determined κs a x y r₁ r₂ p q = p ∙ sym q
+
+pub accepted_changes_determined : Determined 0 accepted-changes-kinds.ps accepted-changes-kinds.r accepted-changes-reads.Post
+accepted_changes_determined κs a x y r₁ r₂ p q = p ∙ sym q
+
+pub refused_changes_determined : Determined 0 refused-changes-kinds.ps refused-changes-kinds.r refused-changes-reads.Post
+refused_changes_determined κs a x y r₁ r₂ p q = p ∙ sym q

@@ -1,18 +1,12 @@
 -- What the door for changes hands out: a flat record, with which listing was refused beside the numbers.
 use Rattle.std.specs.Prelude.{ℕ, ◌≡◌, List}
-use Rattle.paper.specs.Answer.{Answer, accepted, refused, unknown_service}
-use Rattle.paper.specs.Listing.{Listing}
+use Rattle.paper.specs.Answer.{Answer, accepted, refused}
 use Rattle.paper.specs.Changes.{Compared}
 use Rattle.workshop.specs.declared.changes.ChangesRecord.{ChangesRecord}
 
 abbrev pub changes_record : (which : ℕ) → Answer ℕ → ChangesRecord
 changes_record which (accepted n) = record { number = 0; first = 0; second = 0; which = which; written = n }
 changes_record which (refused e) = record { number = e.number; first = e.first; second = e.second; which = which; written = 0 }
-
--- the first listing's refusal, else 15 of the second, whose sub-function does not exist
-abbrev pub second_unknown : Answer Listing → ChangesRecord
-second_unknown (refused e) = changes_record 1 (refused e)
-second_unknown (accepted l) = changes_record 2 (refused (unknown_service 0))
 
 -- two listings were compared into a room
 abbrev pub ComparedRecord : Compared → ChangesRecord → List ℕ → Type 0

@@ -1,3 +1,2 @@
 pub mod Listings
 pub mod Changes
-pub mod Texts

@@ -1,5 +1,6 @@
 -- What the doors for listings take and hand out: a byte for the sub-function, and flat records.
-use Rattle.std.specs.Prelude.{ℕ, List, replicate, eqb}
+use Rattle.std.specs.Prelude.{ℕ, List, replicate, eqb, Result, Ok, Err}
+use Rattle.std.specs.Prelude as code-option
 use Rattle.std.proofs.Math.Option.{Option, none, some}
 use Rattle.std.proofs.Math.ListN.{get_elem?}
 use Rattle.paper.specs.Choice.{pick}
@@ -7,10 +8,13 @@ use Rattle.paper.specs.Answer.{Refusal, Answer, accepted, refused, unknown_servi
 use Rattle.paper.specs.Listing as paper
 use Rattle.paper.specs.Listing.{SubFunction, by_status_mask, by_severity_mask, Listing, read_listing, Head, index_of, Found, write_handed}
 use Rattle.wire.specs.Refusals.{row}
-use Rattle.listing.specs.Listing.{sub_of}
-use Rattle.listing.specs.declared.ListingAnswer.{ListingAnswer}
+use Rattle.wire.specs.declared.refusal.Refusal as wire
+use Rattle.dtc.specs.declared.status.Mask.{Mask}
+use Rattle.dtc.specs.declared.status.Status.{Status}
+use Rattle.listing.specs.Listing.{sub_of, record_said}
+use Rattle.listing.specs.declared.SubFunction as code
+use Rattle.listing.specs.declared.Listed.{Listed}
 use Rattle.station.specs.Handed.{where_known}
-use Rattle.workshop.specs.declared.listings.KnownSub.{KnownSub}
 use Rattle.workshop.specs.declared.listings.ListingRecord.{ListingRecord}
 use Rattle.workshop.specs.declared.listings.ListedRecord.{ListedRecord}
 use Rattle.workshop.specs.declared.listings.IndexRecord.{IndexRecord}
@@ -21,9 +25,9 @@ use Rattle.workshop.specs.declared.listings.LookUpRecord.{LookUpRecord}
 abbrev pub listing_sub : ℕ → Answer SubFunction
 listing_sub b = pick (eqb b 0x02) (accepted by_status_mask) (pick (eqb b 0x08) (accepted by_severity_mask) (refused (unknown_service 0)))
 
-abbrev pub sub_said : KnownSub → Answer SubFunction
-sub_said (KnownSub.Known f) = accepted (sub_of f)
-sub_said KnownSub.Unknown = refused (unknown_service 0)
+abbrev pub sub_said : Result code.SubFunction wire.Refusal → Answer SubFunction
+sub_said (Ok f) = accepted (sub_of f)
+sub_said (Err e) = refused (row e)
 
 -- a listing is read where its sub-function is known
 abbrev pub read_known : List ℕ → Answer SubFunction → Answer Listing
@@ -69,15 +73,23 @@ abbrev pub listed_record : ℕ → Answer Listing → ListedRecord
 listed_record k (accepted l) = place_record (get_elem? l.records k)
 listed_record k (refused e) = refused_listed e
 
+-- the record of what the code found at a place
+abbrev pub placed_said : Result (code-option.Option Listed) wire.Refusal → ListedRecord
+placed_said (Ok found) = place_record (record_said found)
+placed_said (Err e) = refused_listed (row e)
+
 -- an index
+abbrev pub refused_index : Refusal → IndexRecord
+refused_index e = record { number = e.number; first = e.first; second = e.second; counts = replicate 256 0; firsts = replicate 256 0 }
+
 abbrev pub index_record : Answer Listing → IndexRecord
 index_record (accepted l) = record { number = 0; first = 0; second = 0; counts = (index_of l.records).counts; firsts = (index_of l.records).firsts }
-index_record (refused e) = record { number = e.number; first = e.first; second = e.second; counts = replicate 256 0; firsts = replicate 256 0 }
+index_record (refused e) = refused_index e
 
 -- two lists beside what reading says
-abbrev pub flat_index : ListingAnswer → List ℕ → List ℕ → IndexRecord
-flat_index (ListingAnswer.Accepted m n) cs fs = record { number = 0; first = 0; second = 0; counts = cs; firsts = fs }
-flat_index (ListingAnswer.Refused e) cs fs = record { number = (row e).number; first = (row e).first; second = (row e).second; counts = cs; firsts = fs }
+abbrev pub flat_index : Result (Mask Status × ℕ) wire.Refusal → List ℕ → List ℕ → IndexRecord
+flat_index (Ok head) cs fs = record { number = 0; first = 0; second = 0; counts = cs; firsts = fs }
+flat_index (Err e) cs fs = record { number = (row e).number; first = (row e).first; second = (row e).second; counts = cs; firsts = fs }
 
 -- a lookup
 abbrev pub found_look_up : ℕ → paper.Listed → LookUpRecord

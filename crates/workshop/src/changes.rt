@@ -1,21 +1,17 @@
 // What changed between two listings.
-ghost use Rattle.std.specs.Prelude.{◌≡◌};
-ghost use Rattle.paper.specs.Answer.{refused, unknown_service};
-ghost use Rattle.paper.specs.Changes.{without_repeats, read_for_changes, compared_in};
-ghost use Rattle.wire.specs.Writing.{told};
-ghost use Rattle.listing.specs.Listing.{sub_of};
+ghost use Rattle.std.specs.Prelude.{◌≡◌, Ok, Err};
+ghost use Rattle.paper.specs.Changes.{without_repeats, compared_in};
+ghost use Rattle.listing.specs.Changes.{which_said, changes_told, ComparedRight};
 ghost use Rattle.workshop.specs.Listings.{listing_handed};
-ghost use Rattle.workshop.specs.Changes.{changes_record, second_unknown, ComparedRecord};
+ghost use Rattle.workshop.specs.Changes.{changes_record, ComparedRecord};
 
-use crate::listings::{KnownSub, known_sub};
-use listing::changes::{listing_changes, read_once};
-use listing::{ListingAnswer, SubFunction};
-use wire::refusal::Refusal;
-use wire::write::WriteAnswer;
+use crate::listings::known_sub;
+use listing::changes::{ChangesRefusal, listing_changes, read_once};
+use station::records::flat;
 
-// Which listing was refused, 0 where neither was; and how many bytes were written.
+// Which listing was refused, 0 where neither was, a number since C reads it; and how many bytes were written.
 #[repr(C)]
-#[derive(Clone, Copy)]
+#[derive(Clone, Copy, Default)]
 pub struct ChangesRecord {
     pub number: u64,
     pub first: u64,
@@ -24,46 +20,54 @@ pub struct ChangesRecord {
     pub written: u64,
 }
 
-fn flat_changes(which: u8, w: WriteAnswer) -> ChangesRecord
-    ensures { result ≡ changes_record which (told w) }
-{
-    match w {
-        WriteAnswer::Accepted(written) => ChangesRecord {
-            number: 0,
-            first: 0,
-            second: 0,
-            which: which as u64,
+impl From<usize> for ChangesRecord {
+    ghost from_gives = { λ written r. r ≡ changes_record (which_said (Ok written)) (changes_told (Ok written)) };
+
+    fn from(written: usize) -> ChangesRecord {
+        ChangesRecord {
             written: written as u64,
-        },
-        WriteAnswer::Refused(e) => ChangesRecord {
-            number: e.number() as u64,
-            first: e.first() as u64,
-            second: e.second() as u64,
-            which: which as u64,
-            written: 0,
-        },
+            ..ChangesRecord::default()
+        }
     }
 }
 
-// 15 of this listing, whose sub-function does not exist.
-fn unknown_sub(which: u8) -> ChangesRecord
-    ensures { result ≡ changes_record which (refused (unknown_service 0)) }
-{
-    flat_changes(
-        which,
-        WriteAnswer::Refused(Refusal::UnknownService { place: 0 }),
-    )
+impl From<ChangesRefusal> for ChangesRecord {
+    ghost from_gives = { λ x r. r ≡ changes_record (which_said (Err x)) (changes_told (Err x)) };
+
+    fn from(x: ChangesRefusal) -> ChangesRecord {
+        let (which, e) = match x {
+            ChangesRefusal::First(e) => (1, e),
+            ChangesRefusal::Second(e) => (2, e),
+            ChangesRefusal::Room(e) => (0, e),
+        };
+        ChangesRecord {
+            number: e.number() as u64,
+            first: e.first() as u64,
+            second: e.second() as u64,
+            which,
+            ..ChangesRecord::default()
+        }
+    }
 }
 
 // A second sub-function that does not exist is 15 of the second listing, once the first is found good.
-fn second_unknown(f: SubFunction, first: &[u8]) -> ChangesRecord
-    ensures { result ≡ second_unknown (read_for_changes (sub_of f) first.now) }
+fn compare(
+    first_sub: u8,
+    first: &[u8],
+    second_sub: u8,
+    second: &[u8],
+    out: &mut [u8],
+) -> Result<usize, ChangesRefusal>
+    ensures { ComparedRight (compared_in (without_repeats (listing_handed first_sub first.now)) (without_repeats (listing_handed second_sub second.now)) out.old) result out.new }
 {
-    let listing = read_once(f, first);
-    let ListingAnswer::Accepted(_, _) = listing else {
-        return flat_changes(1, WriteAnswer::Refused(listing.refusal()));
-    };
-    unknown_sub(2)
+    let f = known_sub(first_sub).map_err(ChangesRefusal::First)?;
+    match known_sub(second_sub) {
+        Ok(g) => listing_changes(f, first, g, second, out),
+        Err(e) => {
+            let _ = read_once(f, first).map_err(ChangesRefusal::First)?;
+            Err(ChangesRefusal::Second(e))
+        }
+    }
 }
 
 // What changed between two listings, as entries of 6 bytes at the start of the room.
@@ -77,15 +81,5 @@ pub extern "C" fn skr_listing_changes(
 ) -> ChangesRecord
     ensures { ComparedRecord (compared_in (without_repeats (listing_handed first_sub first.now)) (without_repeats (listing_handed second_sub second.now)) out.old) result out.new }
 {
-    let of_first = known_sub(first_sub);
-    let KnownSub::Known(f) = of_first else {
-        return unknown_sub(1);
-    };
-    let of_second = known_sub(second_sub);
-    let KnownSub::Known(g) = of_second else {
-        return second_unknown(f, first);
-    };
-    let a = listing_changes(f, first, g, second, out);
-    let written = a.written;
-    flat_changes(a.which, written)
+    flat(compare(first_sub, first, second_sub, second, out))
 }

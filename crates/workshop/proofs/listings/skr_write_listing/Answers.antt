@@ -5,8 +5,13 @@ use Rattle.station.proofs.Written.{wrote_known, not_known}
 use Rattle.workshop.proofs.Subs.{written_known, written-unknown}
 use Rattle.workshop.proofs.listings.skr_write_listing.Goals as goal
 
-pub returns-in_default : goal.returns-in_default
-returns-in_default c = not_known (written-unknown c.args.«sub» c.args.mask c.args.records.now (ap sub_said (sym c.in_default.is) ∙ c.known_sub-known.ensures)) c.refused_write.ensures
+pub returns-in-Ok : goal.returns-in-Ok
+returns-in-Ok c =
+    let a = c.args in
+    let wrote = rw c.from_bits.ensures at c.write_listing.ensures in
+    wrote_known (written_known a.«sub» a.mask a.records.now (sym (ap sub_said c.in-Ok.is) ∙ c.known_sub.ensures)) wrote c.flat.ensures
 
-pub returns : goal.returns
-returns c = wrote_known (written_known c.args.«sub» c.args.mask c.args.records.now (ap sub_said (sym c.in-Known.is) ∙ c.known_sub-known.ensures)) (rw c.from_bits.ensures at c.write_listing.ensures) c.flat_write.ensures
+pub returns-in-Err : goal.returns-in-Err
+returns-in-Err c =
+    let a = c.args in
+    not_known (written-unknown a.«sub» a.mask a.records.now (sym (ap sub_said c.in-Err.is) ∙ c.known_sub.ensures)) c.into.ensures

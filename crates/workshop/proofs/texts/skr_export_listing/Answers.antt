@@ -5,12 +5,12 @@ use Rattle.station.proofs.Written.{wrote_known, not_known}
 use Rattle.workshop.proofs.Subs.{exported_known, exported_unknown}
 use Rattle.workshop.proofs.texts.skr_export_listing.Goals as goal
 
-pub returns-in_default : goal.returns-in_default
-returns-in_default c =
+pub returns-in-Ok : goal.returns-in-Ok
+returns-in-Ok c =
     let a = c.args in
-    not_known (exported_unknown a.«sub» a.listing.now (ap sub_said (sym c.in_default.is) ∙ c.known_sub-known.ensures)) c.refused_write.ensures
+    wrote_known (exported_known a.«sub» a.listing.now (sym (ap sub_said c.in-Ok.is) ∙ c.known_sub.ensures)) c.export_listing.ensures c.flat.ensures
 
-pub returns : goal.returns
-returns c =
+pub returns-in-Err : goal.returns-in-Err
+returns-in-Err c =
     let a = c.args in
-    wrote_known (exported_known a.«sub» a.listing.now (ap sub_said (sym c.in-Known.is) ∙ c.known_sub-known.ensures)) c.export_listing.ensures c.flat_write.ensures
+    not_known (exported_unknown a.«sub» a.listing.now (sym (ap sub_said c.in-Err.is) ∙ c.known_sub.ensures)) c.into.ensures

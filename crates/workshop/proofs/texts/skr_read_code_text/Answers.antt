@@ -1,7 +1,8 @@
--- `workshop::texts::skr_read_code_text` meets its contract: what reading says, handed out flat.
-use mathlib.Core.Path.{ap, ◌∙◌}
-use Rattle.workshop.specs.Texts.{code_record}
+-- `workshop::texts::skr_read_code_text` meets its contract: the record of what reading says is that of the paper's.
+use Rattle.code_text.specs.CodeText.{code_said}
+use Rattle.station.specs.Records.{code_record}
+use Rattle.station.proofs.Flats.{flat_said}
 use Rattle.workshop.proofs.texts.skr_read_code_text.Goals as goal
 
 pub returns : goal.returns
-returns c = c.flat_code.ensures ∙ ap code_record c.read_code_text.ensures
+returns c = flat_said code_record code_said c.read_code_text.result c.read_code_text.ensures c.flat.ensures
