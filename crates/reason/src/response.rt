@@ -1,4 +1,4 @@
-// Why a response is refused: the steps of its reader, one after the other; the first that refuses names its field and where that begins.
+// Why a response is refused: the steps of its reader, one after the other; the first that refuses names its field and where that begins. Offsets count from the start of the message, so each step is lent all of it.
 ghost use Rattle.std.specs.Prelude.{◌≡◌};
 ghost use Rattle.paper.specs.Reason.{first_failed, response_checks};
 ghost use Rattle.request_file_transfer_response.specs.Layout.{more_of, layout_of};
