@@ -8,6 +8,7 @@ use native.Mathlib.Omega.{arith}
 use borrow.Author.Tests.{le-leb, lt-leb}
 use lib.Dec.{leb}
 use lib.ListN.{length, drop, length-append}
+use Rattle.std.specs.Prelude.{Result, Ok, Err}
 use Rattle.paper.specs.Choice.{pick, both}
 use Rattle.paper.specs.Answer.{Refusal, Answer, accepted, refused, over, written}
 use Rattle.paper.specs.ReadingProgram.{too_long, text_of}
@@ -19,10 +20,9 @@ use Rattle.paper.proofs.Choice.{never}
 use Rattle.paper.proofs.Listing.{accepted-is}
 use Rattle.paper.proofs.Changes.{length_entries, of_few, one-of-first, one-of-second, accepted_once}
 use Rattle.wire.specs.Refusals.{row}
-use Rattle.wire.specs.Writing.{told}
-use Rattle.wire.specs.declared.write.WriteAnswer.{WriteAnswer}
-use Rattle.listing.specs.Changes.{ComparedRight}
-use Rattle.listing.specs.declared.changes.ChangesAnswer.{ChangesAnswer}
+use Rattle.listing.specs.Changes.{which_said, changes_told, ComparedRight}
+use Rattle.listing.specs.declared.changes.ChangesRefusal.{ChangesRefusal}
+use Rattle.listing.specs.declared.changes.ChangesRefusal.TheVariants.{First, Second, Room}
 use Rattle.changes_text.specs.Entries.{changes_said, refused_said}
 use Rattle.changes_text.proofs.Lines.{changes_back}
 
@@ -47,14 +47,14 @@ entries-few xs ys =
 
 -- ---- what is said of an answer
 -- bytes were written: they are n / 6 entries, all there, and what is said of them is printed; or it is the refusal that is
-abbrev pub Said : (a b : Answer Listing) → (which : ℕ) → WriteAnswer → (after : List ℕ) → Type 0
-Said a b which (WriteAnswer.Accepted n) after = (n / 6 ≤ 8192) × (6 * (n / 6) ≤ length after) × (changes_said (n / 6) after ≡ compared_text a b)
-Said a b which (WriteAnswer.Refused e) after = refused_said which (row e) ≡ compared_text a b
+abbrev pub Said : (a b : Answer Listing) → Result ℕ ChangesRefusal → (after : List ℕ) → Type 0
+Said a b (Ok n) after = (n / 6 ≤ 8192) × (6 * (n / 6) ≤ length after) × (changes_said (n / 6) after ≡ compared_text a b)
+Said a b (Err e) after = refused_said e ≡ compared_text a b
 
 -- the entries are written, and found again
 listed : (x y : Listing) (n : ℕ) (old : List ℕ) {after : List ℕ} → length x.records ≤ 4096 → length y.records ≤ 4096 → 49152 ≤ length old
     → accepted n ≡ (written (changes_in (accepted x) (accepted y)) old).answer → after ≡ (written (changes_in (accepted x) (accepted y)) old).contents
-    → Said (accepted x) (accepted y) 0 (WriteAnswer.Accepted n) after
+    → Said (accepted x) (accepted y) (Ok n) after
 unfolding over
 listed x y n old {after} k l room e h =
     let es = changes x.records y.records in
@@ -77,20 +77,26 @@ no_seven x y r old k l room e =
     let fits : length (entries_bytes es) ≤ length old = omega (arith, length_entries es, entries-few x.records y.records) in
     never (rw (le-leb _ _ fits) at e)
 
-said : (a b : Answer Listing) → Few a → Few b → (w : WriteAnswer) {which : ℕ} (old : List ℕ) {after : List ℕ} → 49152 ≤ length old
-    → which ≡ refused_listing a b → told w ≡ (written (changes_in a b) old).answer → after ≡ (written (changes_in a b) old).contents → Said a b which w after
-said (refused r) b k l (WriteAnswer.Accepted n) old room i e h = absurd (never (sym e))
-said (refused r) b k l (WriteAnswer.Refused x) old room i e h = let same : row x ≡ r = cc in rw (i, same) refl
-said (accepted x) (refused r) k l (WriteAnswer.Accepted n) old room i e h = absurd (never (sym e))
-said (accepted x) (refused r) k l (WriteAnswer.Refused y) old room i e h = let same : row y ≡ r = cc in rw (i, same) refl
-said (accepted x) (accepted y) k l (WriteAnswer.Accepted n) old room i e h = listed x y n old k l room e h
-said (accepted x) (accepted y) k l (WriteAnswer.Refused z) old room i e h = absurd (no_seven x y (row z) old k l room e)
+said : (a b : Answer Listing) → Few a → Few b → (r : Result ℕ ChangesRefusal) (old : List ℕ) {after : List ℕ} → 49152 ≤ length old
+    → which_said r ≡ refused_listing a b → changes_told r ≡ (written (changes_in a b) old).answer → after ≡ (written (changes_in a b) old).contents → Said a b r after
+said (refused r) b k l (Ok n) old room i e h = absurd (never (sym e))
+said (refused r) b k l (Err (First x)) old room i e h = let same : row x ≡ r = cc in rw same refl
+said (refused r) b k l (Err (Second x)) old room i e h = absurd (omega (arith, i))
+said (refused r) b k l (Err (Room x)) old room i e h = absurd (omega (arith, i))
+said (accepted x) (refused r) k l (Ok n) old room i e h = absurd (never (sym e))
+said (accepted x) (refused r) k l (Err (First y)) old room i e h = absurd (omega (arith, i))
+said (accepted x) (refused r) k l (Err (Second y)) old room i e h = let same : row y ≡ r = cc in rw same refl
+said (accepted x) (refused r) k l (Err (Room y)) old room i e h = absurd (omega (arith, i))
+said (accepted x) (accepted y) k l (Ok n) old room i e h = listed x y n old k l room e h
+said (accepted x) (accepted y) k l (Err (First z)) old room i e h = absurd (omega (arith, i))
+said (accepted x) (accepted y) k l (Err (Second z)) old room i e h = absurd (omega (arith, i))
+said (accepted x) (accepted y) k l (Err (Room z)) old room i e h = absurd (no_seven x y (row z) old k l room e)
 
 -- of any two files
-pub compared-said : (f g : SubFunction) (s t old : List ℕ) (r : ChangesAnswer) {after : List ℕ} → 49152 ≤ length old → ComparedRight (compared f s g t old) r after
-    → Said (read_for_changes f s) (read_for_changes g t) r.which r.written after
+pub compared-said : (f g : SubFunction) (s t old : List ℕ) (r : Result ℕ ChangesRefusal) {after : List ℕ} → 49152 ≤ length old → ComparedRight (compared f s g t old) r after
+    → Said (read_for_changes f s) (read_for_changes g t) r after
 unfolding compared
-compared-said f g s t old r room c = said (read_for_changes f s) (read_for_changes g t) (few f s) (few g t) r.written old room c.which c.answer c.contents
+compared-said f g s t old r room c = said (read_for_changes f s) (read_for_changes g t) (few f s) (few g t) r old room c.which c.answer c.contents
 
 -- ---- all that is printed
 module _ (s t : List ℕ) where

@@ -7,18 +7,19 @@ use native.Mathlib.Omega.{arith}
 use borrow.Author.Tests.{ne_eqb}
 use lib.ListN.{length, get_or, drop, drop_of_length-le}
 use lib.Seq.{drop-drop, get_or-drop}
+use Rattle.std.specs.Prelude.{Result}
 use Rattle.paper.specs.Answer.{accepted, over}
 use Rattle.paper.specs.TroubleCode.{TroubleCode, trouble_code}
 use Rattle.paper.specs.Changes.{Entry, entry_bytes, entries_bytes, entry_from, entry_in}
 use Rattle.paper.specs.ChangesProgram.{entry_line, entry_lines, changes_text}
 use Rattle.paper.proofs.Changes.{entry_back, drop_entry}
 use Rattle.wire.specs.Writing.{Wrote}
-use Rattle.wire.specs.declared.write.WriteAnswer.{WriteAnswer}
+use Rattle.wire.specs.declared.refusal.Refusal.{Refusal}
 use Rattle.wire.proofs.Writes.{filled}
 use Rattle.changes_text.specs.Entries.{lines_in, changes_said}
 
 -- bytes written over a room of their length are what it holds
-pub fills : {bytes old new : List ℕ} {r : WriteAnswer} → Wrote (accepted bytes) old r new → length bytes ≡ length old → new ≡ bytes
+pub fills : {bytes old new : List ℕ} {r : Result ℕ Refusal} → Wrote (accepted bytes) old r new → length bytes ≡ length old → new ≡ bytes
 unfolding over
 fills {bytes} {old} w e =
     let all : length old ≤ length bytes = omega (arith, e) in

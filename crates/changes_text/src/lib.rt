@@ -9,29 +9,26 @@ ghost use Rattle.paper.specs.Answer.{over};
 ghost use Rattle.paper.specs.Changes.{read_for_changes};
 ghost use Rattle.paper.specs.ListingProgram.{sub_function_said};
 ghost use Rattle.paper.specs.ChangesProgram.{compared_text, changes_printed, how_to_use};
-ghost use Rattle.wire.specs.Refusals.{row};
 ghost use Rattle.form.specs.Text.{Grew};
 ghost use Rattle.changes_text.specs.Entries.{refused_said};
 
 use crate::line::put_changes;
 use form::{put, put_form};
-use listing::changes::listing_changes;
+use listing::changes::{ChangesRefusal, listing_changes};
 use listing::sub_function_said;
-use wire::refusal::Refusal;
-use wire::write::WriteAnswer;
 
 // Room for a file: one byte more than it may have, so that a longer one is seen to be too long. All zeros.
 pub fn room() -> [u8; 65537]
-    ensures value { 65537 ≡ length result }
-    ensures value_2 { result ≡ replicate 65537 0 }
+    ensures len { 65537 ≡ length result }
+    ensures zeros { result ≡ replicate 65537 0 }
 {
     [0; 65537]
 }
 
 // Room for the text, which always fits: 24 bytes for each of 4,096 records of either listing, and of a record there is at most one line, of at most 23 characters. All zeros.
 pub fn text_room() -> [u8; 196608]
-    ensures value { 196608 ≡ length result }
-    ensures value_2 { result ≡ replicate 196608 0 }
+    ensures len { 196608 ≡ length result }
+    ensures zeros { result ≡ replicate 196608 0 }
 {
     [0; 196608]
 }
@@ -43,18 +40,19 @@ fn entries_room() -> [u8; 49152]
     [0; 49152]
 }
 
-// `refused first N A B` or `refused second N A B`, by which listing was refused.
-fn put_refused(which: u8, refusal: Refusal, out: &mut [u8]) -> usize
-    ensures { Grew (refused_said which (row refusal)) 81 0 out.old result out.new }
+// `refused first N A B` or `refused second N A B`, by which listing was refused. The room is never too small, and so never the reason.
+fn put_refused(refused: ChangesRefusal, out: &mut [u8]) -> usize
+    ensures { Grew (refused_said refused) 81 0 out.old result out.new }
 {
-    let number = refusal.number() as u64;
-    let first = refusal.first() as u64;
-    let second = refusal.second() as u64;
-    let numbers = [number, first, second];
-    if which == 1 {
-        return put_form(b"refused first _ _ _\n", &numbers, out, 0);
-    }
-    put_form(b"refused second _ _ _\n", &numbers, out, 0)
+    let (form, e) = match refused {
+        ChangesRefusal::First(e) => (b"refused first _ _ _\n".as_slice(), e),
+        ChangesRefusal::Second(e) | ChangesRefusal::Room(e) => (
+            b"refused second _ _ _\n".as_slice(),
+            e,
+        ),
+    };
+    let numbers = [e.number() as u64, e.first() as u64, e.second() as u64];
+    put_form(form, &numbers, out, 0)
 }
 
 // What is said of two listings: which is refused, and why, or what changed.
@@ -64,11 +62,9 @@ fn put_compared(first: &[u8], second: &[u8], out: &mut [u8]) -> usize
     let old = sub_function_said(first);
     let new = sub_function_said(second);
     let mut entries = entries_room();
-    let answer = listing_changes(old, first, new, second, &mut entries);
-    let written = answer.written;
-    match written {
-        WriteAnswer::Accepted(n) => put_changes(&entries, n / 6, out),
-        WriteAnswer::Refused(e) => put_refused(answer.which, e, out),
+    match listing_changes(old, first, new, second, &mut entries) {
+        Ok(n) => put_changes(&entries, n / 6, out),
+        Err(e) => put_refused(e, out),
     }
 }
 

@@ -17,7 +17,7 @@ fn put_code(code: DtcRecord, out: &mut [u8], at: usize) -> usize
     ensures { Grew (code_text (code_of code)) 8 at out.old result out.new }
 {
     let mut text = [0u8; 8];
-    put_code_text(code, &mut text);
+    let _ = put_code_text(code, &mut text);
     put(&text, out, at)
 }
 
@@ -54,13 +54,11 @@ fn put_both(code: DtcRecord, old: u8, new: u8, out: &mut [u8], at: usize) -> usi
 fn put_entry(kind: u8, code: DtcRecord, old: u8, new: u8, out: &mut [u8], at: usize) -> usize
     ensures { Grew (entry_line (entry_from kind (code_of code) old new)) 23 at out.old result out.new }
 {
-    if kind == 1 {
-        return put_one(b"gone ", code, old, out, at);
+    match kind {
+        1 => put_one(b"gone ", code, old, out, at),
+        2 => put_both(code, old, new, out, at),
+        _ => put_one(b"new ", code, new, out, at),
     }
-    if kind == 2 {
-        return put_both(code, old, new, out, at);
-    }
-    put_one(b"new ", code, new, out, at)
 }
 
 // The line of the entry at place k, of six bytes each.
@@ -79,10 +77,8 @@ fn put_lines(entries: &[u8], n: usize, out: &mut [u8]) -> usize
     ensures { Grew (lines_in n entries.now) (23 * n) 0 out.old result out.new }
 {
     let mut end = 0;
-    let mut k = 0;
-    while k < n {
+    for k in 0..n {
         end = put_line(entries, k, out, end);
-        k += 1;
     }
     end
 }

@@ -3,7 +3,7 @@
 #![tactic(auto)]
 
 use dtc::status::DtcStatusMask;
-use listing_text::import::{MaskAnswer, import_text, listing_room, mask_in, usage_text};
+use listing_text::import::{Printed, import_text, listing_room, mask_in, usage_text};
 use std::io;
 use std::rt::Env;
 
@@ -11,12 +11,9 @@ fn write_listing(rt: &HostRuntime, mask: DtcStatusMask) -> io::Result<()> {
     let mut text = listing_text::room();
     let n = streams::read_full(&mut rt.stdin(), &mut text)?;
     let mut out = listing_room();
-    let printed = import_text(mask, &text[..n], &mut out);
-    let k = printed.count;
-    if printed.to_output {
-        rt.stdout().write_all(&out[..k])
-    } else {
-        rt.stderr().write_all(&out[..k])
+    match import_text(mask, &text[..n], &mut out) {
+        Printed::ToOutput(k) => rt.stdout().write_all(&out[..k]),
+        Printed::ToError(k) => rt.stderr().write_all(&out[..k]),
     }
 }
 
@@ -26,19 +23,16 @@ fn print_usage(err: &impl Print) -> io::Result<()> {
     err.write_all(&text[..k])
 }
 
-// The mask that the one argument is; nothing where there is no argument or more than one.
-fn mask_asked(rt: &impl Env) -> MaskAnswer {
-    if streams::argument_count(rt, 3) != 2 {
-        return MaskAnswer::Nothing;
-    }
+// The mask that the one argument is; none where there is no argument or more than one.
+fn mask_asked(rt: &impl Env) -> Option<DtcStatusMask> {
     let mut word = [0u8; 4096];
-    let n = streams::argument(rt, 1, &mut word);
+    let n = streams::lone_argument(rt, &mut word)?;
     mask_in(&word[..n])
 }
 
 fn main(rt: HostRuntime) -> io::Result<()> {
     match mask_asked(&rt) {
-        MaskAnswer::Mask(mask) => write_listing(&rt, mask),
-        MaskAnswer::Nothing => print_usage(&rt.stderr()),
+        Some(mask) => write_listing(&rt, mask),
+        None => print_usage(&rt.stderr()),
     }
 }

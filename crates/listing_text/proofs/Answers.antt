@@ -9,6 +9,7 @@ use native.Mathlib.Omega.{arith}
 use borrow.Author.Tests.{le-leb, lt-leb}
 use lib.ListN.{length}
 use lib.Dec.{leb}
+use Rattle.std.specs.Prelude.{Ok, Err}
 use Rattle.paper.specs.Choice.{pick}
 use Rattle.paper.specs.Answer.{Answer, accepted, refused, no_room, over, Written}
 use Rattle.paper.specs.ReadingProgram.{too_long, text_of, bad}
@@ -19,7 +20,6 @@ use Rattle.paper.proofs.Choice.{never}
 use Rattle.wire.specs.Refusals.{row}
 use Rattle.wire.specs.Writing.{Wrote}
 use Rattle.wire.specs.declared.refusal.Refusal.{Refusal}
-use Rattle.wire.specs.declared.write.WriteAnswer.{WriteAnswer}
 use Rattle.ascii_text.specs.Text.{Laid, Put}
 use Rattle.ascii_text.proofs.Laid.{put-laid, put_as, put-over}
 use Rattle.listing_text.specs.Import.{PutPrinted, Prints}
@@ -31,7 +31,7 @@ abbrev outcome : Bool → (t old : List ℕ) → Written
 outcome b t old = pick b (record { answer = accepted (length t); contents = over t old }) (record { answer = refused (no_room (length t) (length old)); contents = old })
 
 -- it accepted: the message stands at the start
-accepted-put : (message : Answer (List ℕ)) {old new : List ℕ} {n : ℕ} → Wrote message old (WriteAnswer.Accepted n) new → (t : List ℕ) × (message ≡ accepted t) × Put t n (length t) old new
+accepted-put : (message : Answer (List ℕ)) {old new : List ℕ} {n : ℕ} → Wrote message old (Ok n) new → (t : List ℕ) × (message ≡ accepted t) × Put t n (length t) old new
 accepted-put (refused e) w = absurd (never (sym w.answer))
 accepted-put (accepted t) {old} {new} {n} w = (t, refl, by (leb (length t) (length old)) w.answer w.contents)
   where
@@ -40,28 +40,28 @@ accepted-put (accepted t) {old} {new} {n} w = (t, refl, by (leb (length t) (leng
     by false p q = absurd (never (sym p))
 
 -- it refused: the message is that refusal, and nothing changed
-refused-kept : (message : Answer (List ℕ)) {old mid : List ℕ} {e : Refusal} → ((t : List ℕ) → message ≡ accepted t → length t ≤ length old) → Wrote message old (WriteAnswer.Refused e) mid
+refused-kept : (message : Answer (List ℕ)) {old mid : List ℕ} {e : Refusal} → ((t : List ℕ) → message ≡ accepted t → length t ≤ length old) → Wrote message old (Err e) mid
     → (message ≡ refused (row e)) × (mid ≡ old)
 refused-kept (refused x) {e = e} room w = let said = w.answer in let same : x ≡ row e = cc in (ap refused same, w.contents)
 refused-kept (accepted t) {old} room w = absurd (never (rw (le-leb (length t) (length old) (room t refl)) at w.answer))
 
 -- ---- what is written then, where the message has at most so many bytes and the room is as long
 module _ (message : Answer (List ℕ)) {old : List ℕ} where
-  pub lines-put : {new : List ℕ} {n : ℕ} → ((t : List ℕ) → message ≡ accepted t → length t ≤ 49152) → Wrote message old (WriteAnswer.Accepted n) new → Put (lines_or message) n 49152 old new
+  pub lines-put : {new : List ℕ} {n : ℕ} → ((t : List ℕ) → message ≡ accepted t → length t ≤ 49152) → Wrote message old (Ok n) new → Put (lines_or message) n 49152 old new
   lines-put few w = let (t, is, put) = accepted-put message w in rw is (put_as put refl (few t is))
 
-  pub line_put : {mid new : List ℕ} {e : Refusal} {n : ℕ} → ((t : List ℕ) → message ≡ accepted t → length t ≤ 49152) → 49152 ≤ length old → Wrote message old (WriteAnswer.Refused e) mid
+  pub line_put : {mid new : List ℕ} {e : Refusal} {n : ℕ} → ((t : List ℕ) → message ≡ accepted t → length t ≤ 49152) → 49152 ≤ length old → Wrote message old (Err e) mid
       → Laid (text_of (bad (row e))) n mid new → n ≤ 71 → Put (lines_or message) n 49152 old new
   line_put few room w laid h =
       let (is, same) = refused-kept message (λ t e. let l = few t e in omega arith) w in
       rw is (put_as (put-laid (rw same at laid) h) refl (omega arith))
 
-  pub listing-put : {new : List ℕ} {n : ℕ} → ((t : List ℕ) → message ≡ accepted t → length t ≤ 16387) → Wrote message old (WriteAnswer.Accepted n) new
-      → PutPrinted (listing_or message) (record { to_output = true; count = n }) old new
+  pub listing-put : {new : List ℕ} {n : ℕ} → ((t : List ℕ) → message ≡ accepted t → length t ≤ 16387) → Wrote message old (Ok n) new
+      → PutPrinted (listing_or message) (Printed.ToOutput n) old new
   listing-put few w = let (t, is, put) = accepted-put message w in rw is (record { stream = refl; put = put_as put refl (few t is) })
 
-  pub refusal-put : {mid new : List ℕ} {e : Refusal} {n : ℕ} → ((t : List ℕ) → message ≡ accepted t → length t ≤ 16387) → 16387 ≤ length old → Wrote message old (WriteAnswer.Refused e) mid
-      → Laid (text_of (bad (row e))) n mid new → n ≤ 71 → PutPrinted (listing_or message) (record { to_output = false; count = n }) old new
+  pub refusal-put : {mid new : List ℕ} {e : Refusal} {n : ℕ} → ((t : List ℕ) → message ≡ accepted t → length t ≤ 16387) → 16387 ≤ length old → Wrote message old (Err e) mid
+      → Laid (text_of (bad (row e))) n mid new → n ≤ 71 → PutPrinted (listing_or message) (Printed.ToError n) old new
   refusal-put few room w laid h =
       let (is, same) = refused-kept message (λ t e. let l = few t e in omega arith) w in
       rw is (record { stream = refl; put = put_as (put-laid (rw same at laid) h) refl (omega arith) })

@@ -1,13 +1,16 @@
 -- No second answer, no second room and no other final contents of the buffer meets a contract of this crate.
 -- Assumes nothing.
-use mathlib.Core.Path.{◌≡◌, refl, sym, ap, ap₂, ◌∙◌}
-use mathlib.Core.Bool.{Bool, true≢false}
+use mathlib.Core.Path.{◌≡◌, refl, sym, ap, ◌∙◌}
+use mathlib.Core.Bool.{true≢false}
 use mathlib.Core.List.{List}
 use Prim.Native.Nat.{ℕ}
+use Rattle.std.specs.Prelude.{Option, Some, None}
 use Rattle.wire.proofs.Unique.{Determined}
 use Rattle.wire.proofs.UniqueWriting.{WritesOnce}
-use Rattle.listing_text.specs.Import.{MaskRight}
-use Rattle.listing_text.specs.declared.import.MaskAnswer.{MaskAnswer}
+use Rattle.dtc.specs.declared.status.Mask.{Mask}
+use Rattle.dtc.specs.declared.status.Status.{Status}
+use Rattle.listing_text.specs.Import.{MaskRight, goes_to_output, count_of}
+use Rattle.listing_text.specs.declared.import.Printed.{Printed}
 use Rattle.listing_text.proofs.room.Kinds as room-kinds
 use Rattle.listing_text.proofs.room.Reads as room
 use Rattle.listing_text.proofs.export.text_room.Kinds as text-room-kinds
@@ -34,11 +37,14 @@ pub listing_room_determined : Determined 0 listing-room-kinds.ps listing-room-ki
 listing_room_determined κs a x y r₁ r₂ p q = p.1 ∙ sym q.1
 
 -- ---- the argument
-mask_once : (w : List ℕ) (r₁ r₂ : MaskAnswer) → MaskRight w r₁ → MaskRight w r₂ → r₁ ≡ r₂
-mask_once w (MaskAnswer.Mask m) (MaskAnswer.Mask n) p q = ap (λ (b : ℕ). MaskAnswer.Mask (record { bits = b })) (p.1 ∙ sym q.1)
-mask_once w (MaskAnswer.Mask m) MaskAnswer.Nothing p q = absurd (true≢false (sym p.0 ∙ q))
-mask_once w MaskAnswer.Nothing (MaskAnswer.Mask n) p q = absurd (true≢false (sym q.0 ∙ p))
-mask_once w MaskAnswer.Nothing MaskAnswer.Nothing p q = refl
+abbrev mask_of : ℕ → Option (Mask Status)
+mask_of b = Some (record { bits = b; names = record {} })
+
+mask_once : (w : List ℕ) (r₁ r₂ : Option (Mask Status)) → MaskRight w r₁ → MaskRight w r₂ → r₁ ≡ r₂
+mask_once w (Some m) (Some n) p q = ap mask_of (p.1 ∙ sym q.1)
+mask_once w (Some m) None p q = absurd (true≢false (sym p.0 ∙ q))
+mask_once w None (Some n) p q = absurd (true≢false (sym q.0 ∙ p))
+mask_once w None None p q = refl
 
 pub mask_in_determined : Determined 1 mask-in-kinds.ps mask-in-kinds.r mask-in.Post
 mask_in_determined κs a x y r₁ r₂ p q = mask_once _ r₁ r₂ p q
@@ -47,9 +53,15 @@ mask_in_determined κs a x y r₁ r₂ p q = mask_once _ r₁ r₂ p q
 pub export_text_determined : WritesOnce 2 export-text-kinds.ps export-text-kinds.r (λ κs x. x.1.0) export-text.Post
 export_text_determined κs a x y r₁ r₂ p q = (p.0 ∙ sym q.0, p.1.0 ∙ sym q.1.0)
 
+printed_once : (p q : Printed) → goes_to_output p ≡ goes_to_output q → count_of p ≡ count_of q → p ≡ q
+printed_once (Printed.ToOutput n) (Printed.ToOutput m) e f = ap Printed.ToOutput f
+printed_once (Printed.ToOutput n) (Printed.ToError m) e f = absurd (true≢false e)
+printed_once (Printed.ToError n) (Printed.ToOutput m) e f = absurd (true≢false (sym e))
+printed_once (Printed.ToError n) (Printed.ToError m) e f = ap Printed.ToError f
+
 pub import_text_determined : WritesOnce 2 import-text-kinds.ps import-text-kinds.r (λ κs x. x.1.1.0) import-text.Post
 import_text_determined κs a x y r₁ r₂ p q =
-    (ap₂ (λ (o : Bool) (n : ℕ). record { to_output = o; count = n }) (p.stream ∙ sym q.stream) (p.count ∙ sym q.count), p.contents ∙ sym q.contents)
+    (printed_once r₁ r₂ (p.stream ∙ sym q.stream) (p.count ∙ sym q.count), p.contents ∙ sym q.contents)
 
 pub usage_text_determined : WritesOnce 1 usage-text-kinds.ps usage-text-kinds.r (λ κs x. x.0) usage-text.Post
 usage_text_determined κs a x y r₁ r₂ p q = (p.0 ∙ sym q.0, p.1.0 ∙ sym q.1.0)

@@ -9,12 +9,12 @@ ghost use Rattle.ascii_text.specs.Text.{Put};
 use ascii_text::put_refused;
 use code_text::lines::export_listing;
 use listing::sub_function_said;
-use wire::write::{WriteAnswer, put_bytes};
+use wire::write::put_bytes;
 
 // Room for the text of any listing: 4,096 lines of twelve characters. All zeros.
 pub fn text_room() -> [u8; 49152]
-    ensures value { 49152 ≡ length result }
-    ensures value_2 { result ≡ replicate 49152 0 }
+    ensures len { 49152 ≡ length result }
+    ensures zeros { result ≡ replicate 49152 0 }
 {
     [0; 49152]
 }
@@ -25,8 +25,8 @@ fn put_lines(listing: &[u8], out: &mut [u8]) -> usize
     ensures { Put (lines_or (export_listing (sub_function_said listing.now) listing.now)) result 49152 out.old out.new }
 {
     match export_listing(sub_function_said(listing), listing, out) {
-        WriteAnswer::Accepted(n) => n,
-        WriteAnswer::Refused(e) => put_refused(e, out),
+        Ok(n) => n,
+        Err(e) => put_refused(e, out),
     }
 }
 
@@ -37,7 +37,7 @@ pub fn export_text(listing: &[u8], out: &mut [u8; 49152]) -> usize
     ensures prefix_len { IsPrefixLen result out.new }
 {
     if 65536 < listing.len() {
-        put_bytes(b"too long\n", out);
+        let _ = put_bytes(b"too long\n", out);
         return 9;
     }
     put_lines(listing, out)

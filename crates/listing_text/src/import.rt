@@ -10,46 +10,33 @@ use ascii_text::put_refused;
 use code_text::character::hex_value;
 use code_text::lines::import_listing;
 use dtc::status::DtcStatusMask;
-use wire::write::{WriteAnswer, put_bytes};
+use wire::write::put_bytes;
 
-// The mask that a word is, or nothing.
-#[derive(Clone, Copy)]
-pub enum MaskAnswer {
-    Mask(DtcStatusMask),
-    Nothing,
-}
-
-// Whether it goes to standard output, else to standard error; and how many bytes.
-#[derive(Clone, Copy)]
-pub struct Printed {
-    pub to_output: bool,
-    pub count: usize,
+// How many bytes go to standard output, or to standard error.
+#[derive(Clone, Copy, Debug, PartialEq, Eq)]
+pub enum Printed {
+    ToOutput(usize),
+    ToError(usize),
 }
 
 // Room for the listing of any text: three bytes and 4,096 records of four. All zeros.
 pub fn listing_room() -> [u8; 16387]
-    ensures value { 16387 ≡ length result }
-    ensures value_2 { result ≡ replicate 16387 0 }
+    ensures len { 16387 ≡ length result }
+    ensures zeros { result ≡ replicate 16387 0 }
 {
     [0; 16387]
 }
 
 // The mask that a word is: two hex digits, capitals, and no other word.
-pub fn mask_in(word: &[u8]) -> MaskAnswer
+pub fn mask_in(word: &[u8]) -> Option<DtcStatusMask>
     ensures { MaskRight word.now result }
 {
-    if word.len() != 2 {
-        return MaskAnswer::Nothing;
-    }
-    let high = hex_value(word[0]);
-    if 16 <= high {
-        return MaskAnswer::Nothing;
-    }
-    let low = hex_value(word[1]);
-    if 16 <= low {
-        return MaskAnswer::Nothing;
-    }
-    MaskAnswer::Mask(DtcStatusMask::from_bits(high * 16 + low))
+    let [high, low] = *word else {
+        return None;
+    };
+    let high = hex_value(high)?;
+    let low = hex_value(low)?;
+    Some(DtcStatusMask::from_bits((high * 16 + low) as u8))
 }
 
 // The listing of a text, or the line of its refusal.
@@ -58,18 +45,8 @@ fn put_listing(mask: DtcStatusMask, text: &[u8], out: &mut [u8]) -> Printed
     ensures { PutPrinted (listing_or (import_listing mask.bits text.now)) result out.old out.new }
 {
     match import_listing(mask, text, out) {
-        WriteAnswer::Accepted(n) => {
-            Printed {
-                to_output: true,
-                count: n,
-            }
-        }
-        WriteAnswer::Refused(e) => {
-            Printed {
-                to_output: false,
-                count: put_refused(e, out),
-            }
-        }
+        Ok(n) => Printed::ToOutput(n),
+        Err(e) => Printed::ToError(put_refused(e, out)),
     }
 }
 
@@ -78,11 +55,8 @@ pub fn import_text(mask: DtcStatusMask, text: &[u8], out: &mut [u8; 16387]) -> P
     ensures { Prints (import_prints mask.bits text.now) result out.old out.new }
 {
     if 65536 < text.len() {
-        put_bytes(b"too long\n", out);
-        return Printed {
-            to_output: false,
-            count: 9,
-        };
+        let _ = put_bytes(b"too long\n", out);
+        return Printed::ToError(9);
     }
     put_listing(mask, text, out)
 }
@@ -93,7 +67,7 @@ pub fn usage_text(out: &mut [u8; 16387]) -> usize
     ensures out_after { out.new ≡ over how_to_use out.old }
     ensures prefix_len { IsPrefixLen result out.new }
 {
-    put_bytes(
+    let _ = put_bytes(
         b"usage: import_listing MASK < TEXT, where MASK is two hex digits, 00 to FF\n",
         out,
     );

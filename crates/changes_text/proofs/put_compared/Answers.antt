@@ -8,14 +8,14 @@ use Rattle.changes_text.proofs.put_compared.Goals as goal
 
 pub put_changes-requires : goal.put_changes-requires
 put_changes-requires c =
-    (rw c.in-Accepted.is at (compared-said _ _ _ _ _ _ (search rules) c.listing_changes-answer.ensures)).1
+    (rw c.in-Ok.is at (compared-said _ _ _ _ _ _ (search rules) c.listing_changes.ensures)).1
 
-pub returns-in-Accepted : goal.returns-in-Accepted
-returns-in-Accepted c =
-    let is = rw (c.in-Accepted.is, c.sub_function_said-new.ensures, c.sub_function_said-old.ensures) at (compared-said _ _ _ _ _ _ (search rules) c.listing_changes-answer.ensures) in
+pub returns-in-Ok : goal.returns-in-Ok
+returns-in-Ok c =
+    let is = rw (c.in-Ok.is, c.sub_function_said-new.ensures, c.sub_function_said-old.ensures) at (compared-said _ _ _ _ _ _ (search rules) c.listing_changes.ensures) in
     put_as c.put_changes.ensures is.2 (omega (arith, is.0))
 
-pub returns-in-Refused : goal.returns-in-Refused
-returns-in-Refused c =
-    let is = rw (c.in-Refused.is, c.sub_function_said-new.ensures, c.sub_function_said-old.ensures) at (compared-said _ _ _ _ _ _ (search rules) c.listing_changes-answer.ensures) in
+pub returns-in-Err : goal.returns-in-Err
+returns-in-Err c =
+    let is = rw (c.in-Err.is, c.sub_function_said-new.ensures, c.sub_function_said-old.ensures) at (compared-said _ _ _ _ _ _ (search rules) c.listing_changes.ensures) in
     put_as c.put_refused.ensures is (lit≤ tt)

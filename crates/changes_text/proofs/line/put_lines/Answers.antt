@@ -1,5 +1,5 @@
 -- `changes_text::line::put_lines` meets its contract. The invariant: the lines of the entries that are still to come, after the text so far, make the text that is promised; each line passed took at
--- most 23 bytes. The measure is how many entries they are.
+-- most 23 bytes.
 use Prim.Native.Nat.{◌+◌, ◌-◌, ◌*◌}
 use mathlib.Core.Path.{refl}
 use native.Mathlib.Nat.{sub-zero}
@@ -13,17 +13,16 @@ use Rattle.changes_text.proofs.Lines.{line_more, line_none}
 use Rattle.changes_text.proofs.line.put_lines.Goals as goal
 
 pub loop-k-init : goal.loop-k-init
-loop-k-init c = (search rules, search rules, refl, rw sub-zero refl)
+loop-k-init c = (search rules, refl, rw sub-zero refl)
 
 pub loop-k-preserved : goal.loop-k-preserved
 loop-k-preserved c =
     let put = c.put_line-end in
     let l = c.loop-k in
     let a = c.args in (
-      search rules,
       omega (arith, put.ensures.bound),
       search rules,
-      on _ (lines_in (a.n - (l.k + 1)) (drop (6 * (l.k + 1)) a.entries.now)) (line_more a.entries.now a.n l.k c.loop-k-test.true) l.invariant.3 put.ensures,
+      on _ (lines_in (a.n - (l.k + 1)) (drop (6 * (l.k + 1)) a.entries.now)) (line_more a.entries.now a.n l.k c.loop-k-test.true) l.invariant.2 put.ensures,
     )
 
 pub returns : goal.returns
@@ -31,4 +30,4 @@ unfolding grown
 returns c =
     let l = c.loop-k in
     let a = c.args in
-    record { right = rw (line_none (drop (6 * l.k) a.entries.now) a.n l.k c.loop-k-test.false) at l.invariant.3; bound = omega arith }
+    record { right = rw (line_none (drop (6 * l.k) a.entries.now) a.n l.k c.loop-k-test.false) at l.invariant.2; bound = omega arith }

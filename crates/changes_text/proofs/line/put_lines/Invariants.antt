@@ -1,5 +1,5 @@
 -- `changes_text::line::put_lines` meets its contract. The invariant: the lines of the entries that are still to come, after the text so far, make the text that is promised; each line passed took at
--- most 23 bytes. The measure is how many entries they are.
+-- most 23 bytes.
 use Prim.Native.Nat.{◌-◌, ◌*◌, ◌≤◌}
 use mathlib.Core.Path.{◌≡◌}
 use lib.ListN.{length, drop}
@@ -8,7 +8,4 @@ use Rattle.changes_text.specs.Entries.{lines_in}
 use Rattle.changes_text.proofs.line.put_lines.Given as goal
 
 abbrev pub invariant-loop-k : goal.invariant-loop-k
-invariant-loop-k l = (l.k ≤ l.n) × (l.end ≤ 23 * l.k) × (length l.out ≡ length l.initial.out) × (grown (lines_in (l.n - l.k) (drop (6 * l.k) l.entries)) (text l.end l.out) ≡ grown (lines_in l.n l.entries) (text 0 l.initial.out))
-
-abbrev pub decreases-loop-k : goal.decreases-loop-k
-decreases-loop-k l = l.n - l.k
+invariant-loop-k l = (l.end ≤ 23 * l.k) × (length l.out ≡ length l.initial.out) × (grown (lines_in (l.n - l.k) (drop (6 * l.k) l.entries)) (text l.end l.out) ≡ grown (lines_in l.n l.entries) (text 0 l.initial.out))
