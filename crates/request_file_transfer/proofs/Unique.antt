@@ -10,17 +10,22 @@ use denote.Triple.Clauses.{AtExit}
 use borrow.Fn.Kinds.{Dens, ended_of}
 use borrow.Fn.World.{ArgsD}
 use lib.ListN.{length}
-use Rattle.std.specs.Prelude.{Result}
+use Rattle.std.specs.Prelude.{Result, Ok, Err}
 use Rattle.paper.specs.Request as paper
 use Rattle.paper.specs.Request.{Request, format_and_sizes, nothing, format_only}
 use Rattle.wire.specs.Reading.{Seen}
 use Rattle.wire.specs.declared.refusal.Refusal.{Refusal}
+use Rattle.paper.proofs.Choice.{never}
+use Rattle.wire.specs.Refusals.{row}
+use Rattle.wire.proofs.Refusals.{refusal_back, refusal-back}
 use Rattle.wire.proofs.Unique.{Determined, Settles, once, place_of, place_back}
 use Rattle.wire.proofs.UniqueHeld.{Alike, alike, Settled, settled}
 use Rattle.wire.proofs.UniqueWriting.{answer_back, answer_back_lem, wrote_once}
 use Rattle.file_operation.proofs.Unique.{kind_back, kind-back, format_of, sizes_back, sizes-back, part_back, part-back}
 use Rattle.file_operation.proofs.UniqueRewriting.{rewrote_once}
 use Rattle.request_file_transfer.specs.Layout.{layout_of}
+use Rattle.request_file_transfer.specs.Name.{HoldsGood}
+use Rattle.request_file_transfer.specs.declared.name_payload.NamePayload.{NamePayload}
 use Rattle.request_file_transfer.specs.Reading.{meant, Placed}
 use Rattle.request_file_transfer.specs.declared.layout.AfterName.{AfterName}
 use Rattle.request_file_transfer.specs.declared.layout.AfterName.TheVariants.{FormatAndSizes, Nothing, FormatOnly}
@@ -35,6 +40,7 @@ use Rattle.request_file_transfer.proofs.name_payload.name_place.Kinds as name-pl
 use Rattle.request_file_transfer.proofs.name_payload.name_place.Reads as name-place
 use Rattle.request_file_transfer.specs.contracts.name_payload.NamePayload.of_request as of-request
 use Rattle.request_file_transfer.specs.contracts.name_payload.NamePayload.new as new
+use Rattle.request_file_transfer.specs.contracts.name_payload.NamePayloadTryFromRefSliceU8.try_from as try-from
 use Rattle.request_file_transfer.specs.contracts.name_payload.NamePayload.file_path_and_name as file-path-and-name
 use Rattle.request_file_transfer.specs.contracts.name_payload.NamePayload.held as held
 use Rattle.request_file_transfer.proofs.name_payload.request_name.Kinds as request-name-kinds
@@ -96,6 +102,16 @@ of_request_determined M 𝓤 𝓛 mem run κs a g x y r₁ r₂ = settled 𝓤 (
 
 pub new_determined : Settled new.ended (λ M 𝓤 𝓛. new.clauses 𝓛) (λ κs r₁ r₂. Alike r₁.file_path_and_name r₂.file_path_and_name)
 new_determined M 𝓤 𝓛 mem run κs a g x y r₁ r₂ = settled 𝓤 (alike r₁.file_path_and_name r₂.file_path_and_name)
+
+-- a record of a slice, or the checks' refusal
+held-once : (name : Bor (List ℕ)) (r₁ r₂ : Result NamePayload Refusal) → HoldsGood name r₁ → HoldsGood name r₂ → r₁ ≡ r₂
+held-once name (Ok x) (Ok y) p q = ap (λ (n : Bor (List ℕ)). Ok (record { file_path_and_name = n })) (p.0 ∙ sym q.0)
+held-once name (Ok x) (Err e) p q = absurd (never (sym q ∙ p.1))
+held-once name (Err e) (Ok x) p q = absurd (never (sym p ∙ q.1))
+held-once name (Err d) (Err e) p q = let same : row d ≡ row e = cc in ap Err (sym (refusal-back d) ∙ ap refusal_back same ∙ refusal-back e)
+
+pub try_from_determined : Settled try-from.ended (λ M 𝓤 𝓛. try-from.clauses 𝓛) (λ κs r₁ r₂. r₁ ≡ r₂)
+try_from_determined M 𝓤 𝓛 mem run κs a g x y r₁ r₂ = settled 𝓤 (held-once a.0 r₁ r₂)
 
 -- the slice of a record
 pub file_path_and_name_determined : Settled file-path-and-name.ended (λ M 𝓤 𝓛. file-path-and-name.clauses 𝓛) (λ κs r₁ r₂. r₁ ≡ r₂)

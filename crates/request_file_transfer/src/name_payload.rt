@@ -1,9 +1,9 @@
 // The name record: that very part of the caller's buffer, found to be a name, and nothing else.
-// An enum cannot hold it, so beside each of its two makers stands the call that says whether there is a name: `name_place` beside `of_request`, `good_name` beside `new`.
+// Each of its two makers always makes one. Whether there is a name says `name_place` beside `of_request`, and `try_from` beside `new`.
 ghost use Rattle.std.specs.Prelude.{◌≡◌};
 ghost use Rattle.paper.specs.Request.{good_name};
 ghost use Rattle.file_operation.specs.Part.{part_said, Kept};
-ghost use Rattle.request_file_transfer.specs.Name.{name_place, IsNameOf};
+ghost use Rattle.request_file_transfer.specs.Name.{name_place, IsNameOf, HoldsGood};
 
 use crate::name::good_name;
 use crate::read::read_request;
@@ -19,7 +19,8 @@ pub fn name_place(message: &[u8]) -> Result<Place, Refusal>
     Ok(q.file_path_and_name)
 }
 
-// A file's path and name, held where it stands: no byte of it is copied.
+// A file's path and name, held where it stands: no byte of it is copied. It has a type of its own, as a block length has: docs/STATEMENTS.md names both,
+// each has its own check, and what they share is `part_at` and `kept_after`.
 #[derive(Clone, Copy)]
 pub struct NamePayload<'a> {
     file_path_and_name: &'a [u8],
@@ -56,6 +57,20 @@ impl<'a> NamePayload<'a> {
         ensures { result ≡ self.now.file_path_and_name }
     {
         self.file_path_and_name
+    }
+}
+
+// Holds the very slice that it is lent, or answers why it is no name.
+impl<'a> TryFrom<&'a [u8]> for NamePayload<'a> {
+    type Error = Refusal;
+
+    ghost try_from_gives = { λ name r. HoldsGood name r };
+
+    fn try_from(name: &'a [u8]) -> Result<NamePayload<'a>, Refusal> {
+        good_name(name)?;
+        Ok(NamePayload {
+            file_path_and_name: name,
+        })
     }
 }
 
