@@ -3,12 +3,10 @@ ghost use Rattle.std.specs.Prelude.{◌≡◌};
 ghost use Rattle.paper.specs.Answer.{accepted};
 ghost use Rattle.paper.specs.TroubleCode.{trouble_code};
 ghost use Rattle.paper.specs.CodeText.{code_text, read_code_text, export_in, import_listing};
-ghost use Rattle.station.specs.Records.{WroteRecord};
+ghost use Rattle.station.specs.Records.{WroteRecord, code_record};
 ghost use Rattle.workshop.specs.Listings.{listing_handed};
-ghost use Rattle.workshop.specs.Texts.{code_record};
 
-use station::records::WrittenRecord;
-use workshop::texts::CodeRecord;
+use station::records::{TroubleCodeRecord, WrittenRecord};
 
 // A code in eight characters.
 #[unsafe(no_mangle)]
@@ -20,7 +18,7 @@ pub extern "C" fn skr_code_text(high: u8, middle: u8, low: u8, out: &mut [u8]) -
 
 // The code that a text of eight characters is.
 #[unsafe(no_mangle)]
-pub extern "C" fn skr_read_code_text(text: &[u8]) -> CodeRecord
+pub extern "C" fn skr_read_code_text(text: &[u8]) -> TroubleCodeRecord
     ensures { result ≡ code_record (read_code_text text.now) }
 {
     workshop::texts::skr_read_code_text(text)
