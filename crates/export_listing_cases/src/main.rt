@@ -2,36 +2,24 @@
 #![tactic(auto)]
 
 use listing_text::export::{export_text, text_room};
+use std::fs::File;
 use std::io;
-use std::io::Read;
+use streams::Case;
 
-fn print_text(rt: &impl Print, name: &[u8], file: &mut impl Read) -> io::Result<()> {
-    let mut listing = listing_text::room();
-    let n = streams::read_full(file, &mut listing)?;
-    let mut text = text_room();
-    let k = export_text(&listing[..n], &mut text);
-    rt.write_all(name)?;
-    rt.write_all(b":\n")?;
-    rt.write_all(&text[..k])
-}
+struct ExportedListing;
 
-fn print_case(rt: &HostRuntime, i: usize) -> io::Result<()> {
-    let mut path = [0u8; 4096];
-    let n = streams::argument(rt, i, &mut path);
-    match streams::open_read(rt, &path[..n]) {
-        Ok(mut file) => print_text(rt, &path[..n], &mut file),
-        Err(error) => streams::fail(&mut rt.stderr(), rt.alloc(), &path[..n], &error),
+impl Case for ExportedListing {
+    fn print(&self, rt: &HostRuntime, path: &[u8], file: &mut File) -> io::Result<()> {
+        let mut listing = listing_text::room();
+        let n = streams::read_full(file, &mut listing)?;
+        let mut text = text_room();
+        let k = export_text(&listing[..n], &mut text);
+        rt.write_all(path)?;
+        rt.write_all(b":\n")?;
+        rt.write_all(&text[..k])
     }
-}
-
-fn print_all(rt: &HostRuntime) -> io::Result<()> {
-    let count = streams::argument_count(rt, usize::MAX);
-    for i in 1..count {
-        print_case(rt, i)?;
-    }
-    Ok(())
 }
 
 fn main(rt: HostRuntime) -> io::Result<()> {
-    print_all(&rt)
+    ExportedListing.print_each(&rt)
 }

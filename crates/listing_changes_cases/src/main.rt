@@ -35,17 +35,11 @@ fn print_name(rt: &(impl Env + Print), i: usize, sign: &[u8]) -> io::Result<()> 
     rt.write_all(sign)
 }
 
-// The file that an argument names, open for reading; where it can't be opened, it is said, and nothing will be read from it.
+// The file that an argument names, open for reading; where it can't be opened, standard error is told why, and nothing will be read from it.
 fn opened(rt: &HostRuntime, i: usize) -> io::Result<Option<File>> {
     let mut path = [0u8; 4096];
     let n = streams::argument(rt, i, &mut path);
-    match streams::open_read(rt, &path[..n]) {
-        Ok(file) => Ok(Some(file)),
-        Err(error) => {
-            streams::fail(&mut rt.stderr(), rt.alloc(), &path[..n], &error)?;
-            Ok(None)
-        }
-    }
+    streams::open_or_fail(rt, &mut rt.stderr(), &path[..n])
 }
 
 fn print_case(rt: &HostRuntime, i: usize, j: usize) -> io::Result<()> {
@@ -56,6 +50,7 @@ fn print_case(rt: &HostRuntime, i: usize, j: usize) -> io::Result<()> {
     print_text(rt, &mut old, &mut new)
 }
 
+// Each two arguments. What is done with two is no `Case`: a function of `streams` for this would take a closure, and so have a `requires`, which no public function here has.
 fn print_all(rt: &HostRuntime) -> io::Result<()> {
     let pairs = streams::argument_count(rt, usize::MAX) / 2;
     for k in 0..pairs {
