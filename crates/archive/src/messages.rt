@@ -137,6 +137,7 @@ pub extern "C" fn skr_read_message(message: &[u8]) -> MessageRecord
     flat(read_message(message))
 }
 
+// The four writers take what their namesakes in crate `station` take: C hands all of it over, so each door has those parameters, and only the writer is another.
 #[unsafe(no_mangle)]
 pub extern "C" fn skr_write_request_message(
     kind: u8,

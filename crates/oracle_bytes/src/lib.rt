@@ -14,7 +14,7 @@ use crate::mask::{put_joined, put_matching, put_severity, put_status};
 use crate::named::{put_format, put_group, put_record_number, put_sub_function};
 use dtc::status::{DtcSeverityMask, DtcStatusMask};
 
-// The answer to the call that the letter stands for, after the first `at` bytes of the text.
+// The answer to the call that the letter stands for, after the first `at` bytes of the text. A match on letters: the recorded list has them, and each call reads the input in its own way.
 pub fn put_answer(letter: u8, input: &[u8], out: &mut [u8], at: usize) -> usize
     ensures { IsPrefixLen result out.new }
 {

@@ -13,7 +13,7 @@ use station::routine::{skr_read_routine_request, skr_read_routine_response};
 use station::transfer::{skr_read_request, skr_read_response};
 use station::trouble::skr_dtc_next;
 
-// The answer to the call that the letter stands for, after the first `at` bytes of the text.
+// The answer to the call that the letter stands for, after the first `at` bytes of the text. A match on letters: the recorded list has them, and each call reads the input in its own way.
 pub fn put_answer(letter: u8, input: &[u8], out: &mut [u8], at: usize) -> usize
     ensures { IsPrefixLen result out.new }
 {

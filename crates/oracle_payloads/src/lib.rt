@@ -15,7 +15,7 @@ use crate::mode::{put_mode, put_mode_of};
 use crate::read::put_payload;
 use crate::write::{put_encoded, put_held};
 
-// The answer to the call that the letter stands for, after the first `at` bytes of the text.
+// The answer to the call that the letter stands for, after the first `at` bytes of the text. A match on letters: the recorded list has them, and each call reads the input in its own way.
 pub fn put_answer(letter: u8, input: &[u8], out: &mut [u8], at: usize) -> usize
     ensures { IsPrefixLen result out.new }
 {

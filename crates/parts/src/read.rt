@@ -41,6 +41,7 @@ impl From<Refusal> for PartRecord {
     }
 }
 
+// Each reader below is one call, and a symbol of its own to C.
 // A name after its length in two bytes.
 #[unsafe(no_mangle)]
 pub extern "C" fn skr_read_name(buffer: &[u8]) -> PartRecord

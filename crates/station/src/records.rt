@@ -105,6 +105,7 @@ pub fn flat<A: Into<R>, E: Into<R>, R>(answer: Result<A, E>) -> R
     }
 }
 
+// What a refusal says, here and in each record that has a `From<Refusal>`: to C the three numbers are the record's own first fields, so each takes them by itself.
 impl From<Refusal> for FileTransferRecord {
     ghost from_gives = { λ e r. r ≡ refused_transfer (row e) };
 

@@ -97,7 +97,7 @@ pub extern "C" fn skr_read_response(message: &[u8]) -> FileTransferRecord
     flat(read_response(message))
 }
 
-// Two sizes, each handed over in two halves, as a request has them.
+// Two sizes, each handed over in two halves, as a request has them. Of requests and of responses they are two types, as in the original (docs/DIFFERENCES.md).
 pub fn request_sizes(
     uncompressed_high: u64,
     uncompressed_low: u64,

@@ -75,7 +75,7 @@ pub struct LookUpRecord {
     pub status: u64,
 }
 
-// The sub-function that a byte stands for.
+// The sub-function that a byte of C stands for.
 pub(crate) fn known_sub(sub: u8) -> Result<SubFunction, Refusal>
     ensures { sub_said result ≡ listing_sub «sub» }
 {
