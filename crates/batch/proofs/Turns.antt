@@ -16,7 +16,7 @@ use Rattle.paper.specs.Batch.{number_of, batch_numbers}
 use Rattle.paper.proofs.Batch.{numbers, length_numbers, number_at}
 use Rattle.wire.specs.Writing.{Filled, Wrote}
 use Rattle.wire.specs.declared.refusal.Refusal.{Refusal}
-use Rattle.wire.proofs.Over.{over_length, filled_none, filled_set, filled_as}
+use Rattle.wire.proofs.Over.{filled_none, filled_set, filled_as}
 use Rattle.wire.proofs.Writes.{refuses, writes, malformed, passed}
 
 -- ---- the lengths added up
@@ -62,11 +62,6 @@ module _ (b ls old : List ℕ) where
       let number : get_or n k 0 ≡ r = number_at b ls k h ∙ sym (is ∙ rw (long, e) refl) in
       let more : take k n ++ (r ∷ []) ≡ take (k + 1) n = rw (add-one, take-suc n k 0 (omega (arith, length_numbers b ls)), number) refl in
       filled_as more (filled_set r f (front k (omega arith)))
-
-  pub as_long : (k : ℕ) {list : List ℕ} → k ≤ length ls → length ls ≤ length old → SoFar k list → length list ≡ length old
-  as_long k h room f =
-      let fits : length (take k (numbers b ls)) ≤ length old = omega (arith, front k h) in
-      ap length (f.given_room fits) ∙ over_length _ old fits
 
   -- ---- the answers
   pub too_many_lem : 4096 < length ls → Wrote (batch_numbers b ls) old (Err Refusal.TooMany) old

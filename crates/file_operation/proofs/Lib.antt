@@ -1,4 +1,3 @@
-pub mod Modes
 pub mod Lengths
 pub mod Rewrites
 pub mod UniqueRewriting

@@ -53,10 +53,6 @@ module _ {s old new : List ℕ} {at i : ℕ} (fits : Fits s old) (f : Filling s 
     fill_never r e = never ((walk_stops f.walk h few e).0 ∙ fits.good)
 
     module _ {n : ℕ} (r : HasLength (drop at s) n) where
-      -- its length has a place in the list
-      pub fill_place : i < length new
-      fill_place = omega (arith, walk_there f.walk h few r, fits.room, f.long)
-
       more : take i (pieces_of s).lengths ++ (n ∷ []) ≡ take (i + 1) (pieces_of s).lengths
       more = rw (add-one i, take-suc (pieces_of s).lengths i 0 (walk_there f.walk h few r), walk_length f.walk h few r)
 

@@ -1,20 +1,18 @@
 -- What reading a listing answers, case by case, and where its records stand: what the returns of the readers cite.
 -- Assumes nothing.
-use mathlib.Core.Path.{◌≡◌, refl, sym, ap}
-use Prim.Native.Nat.{ℕ, zero, suc, ◌+◌, ◌*◌, ◌-◌, ◌/◌, ◌%◌, ◌≤◌, ◌<◌}
+use mathlib.Core.Path.{◌≡◌, refl, sym}
+use Prim.Native.Nat.{ℕ, zero, suc, ◌-◌, ◌/◌, ◌%◌, ◌≤◌, ◌<◌}
 use mathlib.Core.Bool.{Bool, true, false}
 use mathlib.Core.List.{List, [], ◌∷◌}
 use mathlib.Core.Option.{none, some}
 use native.Mathlib.Omega.{arith}
 use native.Mathlib.Nat.{le_of_suc-le-suc}
 use lib.ListN.{length, get_or, get_elem?, drop}
-use lib.Seq.{get_or-drop, drop-drop}
 use borrow.Author.Tests.{lt-leb, le-leb, eq-eqb, ne_eqb}
 use Rattle.paper.specs.Choice.{both}
 use Rattle.paper.specs.Answer.{accepted, refused, too_short, unknown_service, too_many, cut}
-use Rattle.paper.specs.TroubleCode.{trouble_code}
 use Rattle.paper.specs.Listing as paper
-use Rattle.paper.specs.Listing.{by_status_mask, by_severity_mask, sub_function_byte, unknown_severity, known_severity, record_size, record_of, listing, answer_byte, read_listing}
+use Rattle.paper.specs.Listing.{sub_function_byte, record_size, listing, answer_byte, read_listing}
 use Rattle.paper.proofs.Listing.{no_cut, length_records, record_there}
 use Rattle.std.specs.Prelude.{Result, Ok, Err, Some}
 use Rattle.std.specs.Result.{result_ok}
@@ -74,21 +72,6 @@ module _ (f : paper.SubFunction) (n : ℕ) (s : List ℕ) (k : ℕ) where
 
   pub here : k < n → some (record_here f s k) ≡ get_elem? (records_of f n s) k
   here l = sym (record_there f n k (drop 3 s) l)
-
--- ---- the bytes of a record
-module _ (s : List ℕ) (at : ℕ) where
-  first : at + 0 ≡ at
-  first = omega arith
-
-  pub four_are : unknown_severity (trouble_code (get_or s at 0) (get_or s (at + 1) 0) (get_or s (at + 2) 0)) (get_or s (at + 3) 0) ≡ record_of by_status_mask (drop at s)
-  four_are = simp (get_or-drop, first)
-
-  pub six_are : known_severity (get_or s at 0) (get_or s (at + 1) 0) (trouble_code (get_or s (at + 2) 0) (get_or s (at + 3) 0) (get_or s (at + 4) 0)) (get_or s (at + 5) 0) ≡ record_of by_severity_mask (drop at s)
-  six_are = simp (get_or-drop, first)
-
--- a record stands behind the three bytes of the head
-pub behind_head : (f : paper.SubFunction) (s : List ℕ) (k : ℕ) → record_of f (drop (3 + record_size f * k) s) ≡ record_here f s k
-behind_head f s k = ap (record_of f) (sym (drop-drop (record_size f * k) 3 s))
 
 -- what a reader that answered says
 pub read_ok : (r : Result Records Refusal) {x : Records} → result_ok r ≡ Some x → read_said r ≡ accepted (listing_of x)

@@ -3,19 +3,19 @@
 use mathlib.Core.Path.{◌≡◌, refl, sym, ap, ap₂, ◌∙◌}
 use Prim.Native.Nat.{ℕ, zero, suc, ◌+◌, ◌-◌, ◌≤◌, ◌<◌}
 use mathlib.Core.Bool.{Bool, true, false, ◌&&◌}
-use mathlib.Core.List.{List, [], ◌∷◌, ◌++◌, map}
+use mathlib.Core.List.{List, [], ◌∷◌, ◌++◌}
 use mathlib.Core.Option.{some}
 use native.Mathlib.Nat.{sub-zero}
 use native.Mathlib.Numerals.{add-one}
 use native.Mathlib.Omega.{arith}
-use lib.ListN.{length, get_or, get_elem?, set, drop, replicate}
+use lib.ListN.{get_or, get_elem?, set, drop, replicate}
 use lib.Dec.{eqb}
 use lib.Pointwise.{pointwise}
 use mir.Val.{bool_byte}
 use Rattle.paper.specs.Choice.{both}
 use Rattle.paper.specs.Answer.{accepted, refused, no_such_code}
 use Rattle.paper.specs.TroubleCode.{TroubleCode}
-use Rattle.paper.specs.Listing.{SubFunction, Listed, one_by_one, records_in, how_many, first_with, numbers_from, Index, index_of, same_numbers, own_index, has_high, has_code, find}
+use Rattle.paper.specs.Listing.{SubFunction, Listed, one_by_one, records_in, how_many, first_with, Index, index_of, same_numbers, own_index, has_high, has_code, find}
 use Rattle.paper.proofs.Listing.{length_records, record_there, records-more}
 use Rattle.paper.proofs.ListingIndex.{no_counts, no_firsts, counted-more, new_first, old_first, count_small, count_at, first_at, Searching, search_starts, search_ends, search_within, search_found, search_less, search_on}
 use Rattle.dtc.specs.Status.{same_code}
@@ -27,20 +27,6 @@ use Rattle.listing.specs.declared.Listed as listing
 use Rattle.listing.specs.Index.{numbers_in, found_said, look_said}
 
 -- ---- the index
--- each of its lists has 256 numbers
-length_numbers : (g : ℕ → ℕ) (j n : ℕ) → length (map g (numbers_from j n)) ≡ n
-unfolding numbers_from
-length_numbers g j zero = refl
-length_numbers g j (suc n) = ap suc (length_numbers g (suc j) n)
-
-pub length_counts : (rs : List Listed) → length (index_of rs).counts ≡ 256
-unfolding index_of
-length_counts rs = length_numbers (how_many rs) 0 256
-
-pub length_firsts : (rs : List Listed) → length (index_of rs).firsts ≡ 256
-unfolding index_of
-length_firsts rs = length_numbers (first_with rs) 0 256
-
 -- before the first record: all zeros
 pub none-counted : (f : SubFunction) (s : List ℕ) → replicate 256 0 ≡ (index_of (records_of f 0 s)).counts
 unfolding one_by_one records_in
@@ -101,9 +87,6 @@ module _ (rs : List Listed) (x : Index) (made : x ≡ index_of rs) (cs fs : List
   owns_firsts {xf} e told firsts = told ∙ rw (← made, ← counts, ← same-pointwise cs xc, ← is, e, ← firsts, same-pointwise fs xf) refl
 
 module _ (rs : List Listed) (cs fs : List ℕ) (own : numbers_in cs fs ≡ index_of rs) where
-  pub own_lengths : (length cs ≡ 256) × (length fs ≡ 256)
-  own_lengths = (ap (λ (x : Index). length x.counts) own ∙ length_counts rs, ap (λ (x : Index). length x.firsts) own ∙ length_firsts rs)
-
   pub own_count : {h high : ℕ} → h < 256 → h ≡ high → get_or cs h 0 ≡ how_many rs high
   own_count {h} small e = ap (λ (x : Index). get_or x.counts h 0) own ∙ count_at rs h small ∙ ap (how_many rs) e
 

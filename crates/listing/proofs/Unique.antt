@@ -9,7 +9,7 @@ use lib.Dec.{eqb}
 use Rattle.paper.specs.Choice.{pick}
 use Rattle.paper.specs.Answer.{Answer, accepted, refused}
 use Rattle.paper.specs.Listing as paper
-use Rattle.paper.specs.Listing.{by_status_mask, by_severity_mask, Head, Found, head_of}
+use Rattle.paper.specs.Listing.{by_status_mask, by_severity_mask, Head, Found}
 use Rattle.paper.specs.Changes.{Compared}
 use Rattle.wire.proofs.Refusals.{refusal_back, refusal-back}
 use Rattle.wire.proofs.Unique.{Determined}

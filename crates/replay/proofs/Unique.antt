@@ -7,7 +7,7 @@ use Rattle.paper.specs.Replay.{none, counter, closed, opened, ran, stopped}
 use Rattle.wire.specs.declared.refusal.Refusal.{Refusal}
 use Rattle.wire.proofs.Refusals.{refusal_back, refusal-back}
 use Rattle.wire.proofs.Unique.{Determined}
-use Rattle.replay.specs.Replay.{last_of, transfer_of, state_of, meant, step_said, ended_said}
+use Rattle.replay.specs.Replay.{last_of, transfer_of, state_of, step_said, ended_said}
 use Rattle.replay.specs.declared.Transfer.{Transfer}
 use Rattle.replay.specs.declared.State.{State}
 use Rattle.replay.specs.declared.LogRecord.{LogRecord}

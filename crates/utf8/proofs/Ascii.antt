@@ -10,7 +10,7 @@ use lib.ListN.{length, get_or, take, drop, length-drop}
 use Rattle.paper.specs.Utf8.{Utf8, none, more, utf8_1}
 use Rattle.paper.proofs.Choice.{cut}
 use Rattle.utf8.specs.Valid.{Valid}
-use Rattle.utf8.specs.Ascii.{AsciiTo, Ascii, AsciiStart, AsciiRun, AsciiEnd}
+use Rattle.utf8.specs.Ascii.{AsciiTo, Ascii, AsciiStart, AsciiEnd}
 use Rattle.utf8.proofs.Valid.{rest_of, part_within, in_part}
 
 -- one byte more: the bits of two bytes together are below 0x80 where both are
@@ -39,17 +39,6 @@ ascii_end s n l b = record {
       let long : length (take (length s - (length s - n)) (drop (length s - n) s)) ≡ n = rw rest_of (omega (arith, length-drop (length s - n) s)) in
       rw (in_part s (length s - n) n _ [] p long i k (omega arith)) (b (i - (length s - n)) (omega arith));
 }
-
--- what is passed, and a last block that reaches back to it, are all of s
-pub all_passed : {s : List ℕ} {at n : ℕ} → AsciiStart s at → length s - at ≤ n → AsciiEnd s n → AsciiStart s (length s)
-all_passed {s} {at} h l e = record { within = omega arith; ascii = λ i j. ⊎_elim (h.ascii i) (λ k. e.ascii i j (omega (arith, h.within))) (cut i at) }
-
--- a run ends at a byte that is not ASCII, or at the end of the text
-pub run_stops : {s : List ℕ} {at : ℕ} → AsciiStart s at → 0x80 ≤ get_or s at 0 → AsciiRun s at
-run_stops h b = record { start = h; ends = λ _. b }
-
-pub run_ends : {s : List ℕ} {at : ℕ} → AsciiStart s at → length s ≤ at → AsciiRun s at
-run_ends h l = record { start = h; ends = λ m. absurd (omega arith) }
 
 -- ASCII is UTF-8
 text : (n : ℕ) (s : List ℕ) → n ≤ length s → AsciiTo s n → Utf8 (take n s)
