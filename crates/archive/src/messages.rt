@@ -49,6 +49,7 @@ pub struct MessageRecord {
 }
 
 // A file transfer message behind the service byte of its sort.
+// A function, here and below, and no `From` of a pair, which would be no shorter at the two calls.
 fn of_transfer(sort: Sort, x: FileTransferRecord) -> MessageRecord
     ensures { result ≡ of_transfer (service_byte (sort_of sort)) x.start x }
 {

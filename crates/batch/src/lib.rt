@@ -10,6 +10,7 @@ use request_file_transfer::read::read_request;
 use wire::refusal::Refusal;
 
 // The refusal number of reading one request, 0 where it is accepted. What is left over is no refusal.
+// A number, and no `Result`: the list of them is lent as bytes, which C reads, and a batch is a writer of those (`Wrote`).
 fn number_of(message: &[u8]) -> u8
     ensures { result ≡ number_of message.now }
 {

@@ -1,4 +1,6 @@
 // The lines of entries. The first `at` bytes of `out` are the text so far; each function adds to them and answers how many they then are.
+// `out` and `at` are two parameters, and no part is put by `write!`, for the reasons that stand in crate `form`.
+// The parts of an entry are taken from its six bytes: `listing` writes entries as bytes, and its `Entry` is private.
 ghost use Rattle.std.specs.Prelude.{◌++◌, ◌+◌, ◌*◌, ◌≤◌, length, drop};
 ghost use Rattle.paper.specs.ReadingProgram.{ascii};
 ghost use Rattle.paper.specs.MessageProgram.{hex_byte};
@@ -51,6 +53,7 @@ fn put_both(code: DtcRecord, old: u8, new: u8, out: &mut [u8], at: usize) -> usi
 }
 
 // The line of an entry: 1 gone, 2 differs, else new.
+// The kind is the first of the entry's bytes: the paper's `entry_from` reads it in the same way, and takes any other for new.
 fn put_entry(kind: u8, code: DtcRecord, old: u8, new: u8, out: &mut [u8], at: usize) -> usize
     ensures { Grew (entry_line (entry_from kind (code_of code) old new)) 23 at out.old result out.new }
 {

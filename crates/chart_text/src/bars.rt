@@ -1,4 +1,5 @@
 // The months: a bar each, with its parts, its figures and its name. A month is counted from 0 here.
+// A refusal number is a place in the month's row, as in the legend.
 ghost use Rattle.std.specs.Prelude.{◌≡◌, ◌+◌, ◌*◌, ◌≤◌, ◌<◌, length, take, drop};
 ghost use Rattle.paper.specs.WrongLoads.{all};
 ghost use Rattle.paper.specs.Chart.{height, part, parts_from, name_of, figures, no_records, month_drawn, months_from};

@@ -18,7 +18,7 @@ fn row(place: usize) -> &'static [u8]
     }
 }
 
-// The character that stands for a number there; 0 where there is none.
+// The character that stands for a number there; 0 where there is none, as `get_or` of the contract has it.
 pub(crate) fn character(place: usize, n: u8) -> u8
     ensures { result ≡ get_or (get_or line_places place []) n 0 }
 {

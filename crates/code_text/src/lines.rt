@@ -92,6 +92,7 @@ fn line_at(text: &[u8], at: usize) -> Listed
 }
 
 // The records of n lines, one after the other.
+// As `listing` does it with records that are handed over, here and below: these stand in lines, and no writer of several there takes such.
 fn put_records(text: &[u8], n: usize, out: &mut [u8]) -> Result<usize, Refusal>
     requires { WholeLines n text.now }
     ensures { Wrote (accepted (records_bytes by_status_mask (records_in_lines n text.now))) out.old result out.new }

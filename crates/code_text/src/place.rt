@@ -5,6 +5,7 @@ ghost use Rattle.code_text.specs.CodeText.{sort_of, FoundWrong};
 
 use crate::character::value;
 
+// An enum, as the paper has it (`sort_of`): what can stand at a place and whether the text can end there are asked of one sort.
 #[derive(Clone, Copy, Debug, PartialEq, Eq)]
 pub(crate) enum Sort {
     OneCode,

@@ -5,6 +5,7 @@ use desk_line::desk_text;
 use std::io;
 
 // What differs between programs that read, make a text and write it is the room and the function: one function for them all would take a closure, and so have a `requires`, which no public function here has.
+// A trait as `streams::Case` would be no shorter than these lines.
 fn main(rt: HostRuntime) -> io::Result<()> {
     let mut input = desk_line::room();
     let n = streams::read_full(&mut rt.stdin(), &mut input)?;

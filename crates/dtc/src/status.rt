@@ -77,7 +77,7 @@ impl DtcRecord {
         self.low_byte
     }
 
-    // Whether two records are the same code, as `==` has it.
+    // Whether two records are the same code, as `==` has it. docs/DIFFERENCES.md names it beside the original's `==`.
     pub fn equals(self, other: DtcRecord) -> bool
         ensures { result ≡ same_code (code_of self) (code_of other) }
     {

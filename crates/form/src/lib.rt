@@ -34,6 +34,7 @@ pub fn put(bytes: &[u8], out: &mut [u8], at: usize) -> usize
     end
 }
 
+// Capitals: `io::hex` writes small letters.
 fn hex_digit(n: u8) -> u8
     requires { n < 16 }
     ensures { result ≡ hex_digit n }

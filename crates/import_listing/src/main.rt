@@ -17,6 +17,8 @@ fn write_listing(rt: &HostRuntime, mask: DtcStatusMask) -> io::Result<()> {
     }
 }
 
+// As in the other programs with a usage: one function for them all would take `usage_text` as a closure, and so have a `requires`, which no public function here has.
+// A trait as `streams::Case` would be no shorter than these lines.
 fn print_usage(err: &impl Print) -> io::Result<()> {
     let mut text = listing_room();
     let k = usage_text(&mut text);

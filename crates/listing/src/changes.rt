@@ -47,6 +47,7 @@ enum Entry {
 }
 
 // Of which listing the records are that are looked for in the other.
+// An enum, and no closure for the step: where a contract says `half`, it would have to say the closure's law.
 #[derive(Clone, Copy)]
 enum Half {
     First,
@@ -94,7 +95,7 @@ pub fn read_once(sub: SubFunction, s: &[u8]) -> Result<(DtcStatusMask, usize), R
     Ok(once(sub, s)?.records.head())
 }
 
-// Whether two records of one code are the same: in status, in the mark, in severity and in functional unit.
+// Whether two records of one code are the same: in status, in the mark, in severity and in functional unit. `same_record` of the paper does not look at the code, so no derived `==`.
 fn same_record(a: Listed, b: Listed) -> bool
     ensures { result ≡ same_record (listed_of a) (listed_of b) }
 {

@@ -6,6 +6,8 @@ use std::io;
 use std::io::Read;
 use std::rt::{Env, Files};
 
+// As in the other programs with a usage: one function for them all would take `usage_text` as a closure, and so have a `requires`, which no public function here has.
+// A trait as `streams::Case` would be no shorter than these lines.
 fn print_usage(err: &impl Print) -> io::Result<()> {
     let mut text = [0u8; 4096];
     let k = usage_text(&mut text);

@@ -13,6 +13,7 @@ use dtc::status::DtcStatusMask;
 use wire::write::put_bytes;
 
 // How many bytes go to standard output, or to standard error.
+// Two words of its own, and no `Result`: the length of a line for standard error is no error.
 #[derive(Clone, Copy, Debug, PartialEq, Eq)]
 pub enum Printed {
     ToOutput(usize),

@@ -23,7 +23,7 @@ pub fn room() -> [u8; 65537]
     [0; 65537]
 }
 
-// The line of a month after the text that stands in `out` up to `at`, as in `form`; nothing where it has no record.
+// The line of a month after the text that stands in `out` up to `at`, as in `form`, for whose reason it takes both; nothing where the month has no record.
 fn put_month(month: u64, row: [u32; 10], out: &mut [u8], at: usize) -> usize
     ensures { Grew (month_line month row) 88 at out.old result out.new }
 {

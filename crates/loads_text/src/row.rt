@@ -1,4 +1,5 @@
 // A month's row of the table: its ten counts, those of the refusal numbers 0 to 9.
+// Each of the sums promises its bound, for callers that multiply it, as `percent_of` does and, in crate `chart_text`, `fits_year`.
 ghost use Rattle.std.specs.Prelude.{◌≡◌, ◌≤◌, drop};
 ghost use Rattle.paper.specs.Tally.{sum};
 ghost use Rattle.paper.specs.WrongLoads.{all, refused_of, percent};

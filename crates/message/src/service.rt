@@ -48,7 +48,7 @@ impl From<Sort> for u8 {
     }
 }
 
-// The two conversions by name.
+// The two conversions by name: they are public, with laws of their own (`sort_from_byte_determined`, `sort_value_determined`).
 impl Sort {
     pub fn from_byte(b: u8) -> Result<Sort, Refusal>
         ensures { sort_said result ≡ known_sort b }
@@ -98,7 +98,7 @@ impl From<Service> for u8 {
     }
 }
 
-// The two conversions by name.
+// The two conversions by name: they are public, with laws of their own (`service_from_byte_determined`, `service_value_determined`).
 impl Service {
     pub fn from_byte(b: u8) -> Result<Service, Refusal>
         ensures { service_said result ≡ known_service b }

@@ -1,5 +1,6 @@
 // Writing a whole message: document 01's writer is lent the room behind the service byte, and only where it wrote is that byte put before it.
 // So its own checks come first, a refusal changes nothing, and 7 counts the service byte.
+// The fields are handed over one by one, as to document 01's writers: a request or a response that was read holds a place, and no bytes.
 ghost use Rattle.std.specs.Prelude.{◌≡◌, ℕ, ◌≤◌, List};
 ghost use Rattle.paper.specs.Answer.{Answer};
 ghost use Rattle.paper.specs.Request.{write_request};

@@ -1,5 +1,6 @@
 // The text of the program's line, in ASCII, ended by a line feed. Each function puts its text at the start of `out`, or after the first `at` bytes of it,
 // and answers how many bytes the text then has: no library here uses a heap. `message_text` lends more room than any line needs.
+// No `write!`, for the reason that stands in crate `ascii_text`.
 ghost use Rattle.std.specs.Prelude.{◌≡◌, ◌≤◌, length};
 ghost use Rattle.io.specs.Counts.{IsPrefixLen};
 ghost use Rattle.paper.specs.Answer.{over};

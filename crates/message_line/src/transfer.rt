@@ -39,6 +39,7 @@ pub(crate) fn response_format(kind: FileOperationMode, format: DataFormatIdentif
 }
 
 // How many bytes a writer needs, by its answer about a room that has none.
+// 7 carries them first, and the first value is taken of any refusal, as `needed_in` has it.
 fn needed(w: Result<usize, Refusal>) -> u64
     ensures { result ≡ needed_in (told w) }
 {

@@ -1,4 +1,5 @@
 // Bytes in lower-case hexadecimal, two digits to a byte.
+// Their number stands beside the room and in no struct with it, as in crate `oracle_text`.
 ghost use Rattle.std.specs.Prelude.{◌<◌};
 ghost use Rattle.io.specs.Counts.{IsPrefixLen};
 

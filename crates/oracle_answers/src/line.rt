@@ -1,4 +1,5 @@
 // The lines of a page. A line is a letter, an input in hexadecimal and the answer, with a space between.
+// The length of a text stands beside the room and in no struct with it, as in crate `oracle_text`.
 ghost use Rattle.std.specs.Prelude.{◌≡◌, ℕ, ◌<◌, ◌≤◌, ◌≢◌, length, slice_index};
 ghost use Rattle.io.specs.Counts.{IsPrefixLen};
 

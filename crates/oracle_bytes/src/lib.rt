@@ -1,5 +1,6 @@
 // The recorded calls on bytes that have a meaning, masks, names and constants, to which no door leads: the letters a to h and p to r. The head of the list
 // says what each answers. Each input is one byte.
+// A function with `out` and `at` adds to the text that is the first `at` bytes of `out`, as those of crate `oracle_text` do, and for their reason takes both.
 // An input of another length gives an empty text, which is unlike any line, and so does a letter that is none of these.
 #![tactic(auto)]
 

@@ -1,5 +1,5 @@
 // The recorded calls on trouble codes and their fields to which no door leads: the letters i to o. The head of the list says what stands where in their inputs.
-// Each function adds to the text that is the first `at` bytes of `out`, and answers how many they then are, as those of crate `oracle_text` do.
+// A function with `out` and `at` adds to the text that is the first `at` bytes of `out`, and answers how many they then are, as those of crate `oracle_text` do, and for their reason takes both.
 // An input of the wrong length gives an empty text, which is unlike any line, and so does a letter that is none of these.
 #![tactic(auto)]
 

@@ -1,4 +1,5 @@
 // The recorded calls through the doors of crate station: the letters A to M. The head of the list says what stands where in their inputs.
+// A function with `out` and `at` adds to the text that is the first `at` bytes of `out`, as those of crate `oracle_text` do, and for their reason takes both.
 // An input of the wrong length gives an empty text, which is unlike any line, and so does a letter that is none of these.
 #![tactic(auto)]
 

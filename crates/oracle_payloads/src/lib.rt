@@ -1,5 +1,6 @@
 // The recorded calls on file transfer messages below the doors of `station`, modes and payloads: the letters s to y. The head of the list says what stands where in
 // their inputs. SizePayload, FileSizePayload, DirSizePayload, PositionPayload, SentDataPayload and NamePayload are counted from 0.
+// A function with `out` and `at` adds to the text that is the first `at` bytes of `out`, as those of crate `oracle_text` do, and for their reason takes both.
 // An input of the wrong length gives an empty text, which is unlike any line, and so does a letter that is none of these.
 #![tactic(auto)]
 

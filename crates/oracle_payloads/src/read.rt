@@ -41,6 +41,7 @@ fn of_place((place, next): (Place, usize)) -> [u64; 8] {
 
 // What the payload of this number says: both sizes in halves, the position, the place of the block length or name, and where the next field begins. What the payload
 // lacks is 0. Of another number there is none.
+// The number is the recorded input's: the head of the crate says which payload it stands for.
 fn read(payload: u8, s: &[u8], place: usize) -> Option<Result<[u64; 8], Refusal>> {
     match payload {
         0 => Some(two_sizes_at(Prefix::One, s, place).map(of_sizes)),

@@ -14,6 +14,7 @@ use wire::size::Size;
 use wire::write::{put_counted, put_eight, put_one_size, put_two_sizes};
 
 // The payload that is made of sizes; of another number than these three there is none, and WrongFormat stands in.
+// The number is the recorded input's: the head of the crate says which payload it stands for.
 fn encode_sizes(
     payload: u8,
     uncompressed: Size,

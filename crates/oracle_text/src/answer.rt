@@ -1,4 +1,5 @@
 // What several answers have: yes or no, a refusal, how many bytes were written.
+// `out` and `at` stand side by side for the reason that text.rt gives.
 ghost use Rattle.std.specs.Prelude.{◌≡◌};
 ghost use Rattle.paper.specs.Choice.{pick};
 ghost use Rattle.wire.specs.Refusals.{row};

@@ -1,4 +1,5 @@
 // Numbers in an input, high byte first; 0 where the input ends before them.
+// Each is named by its place in the whole input, of which the head of the recorded list says what parts it has and how long they are.
 ghost use Rattle.std.specs.Prelude.{◌≡◌, ◌%◌, ◌^◌};
 ghost use Rattle.oracle_text.specs.Input.{number_at, SizeIs};
 

@@ -29,6 +29,7 @@ pub fn put(bytes: &[u8], out: &mut [u8], at: usize) -> usize
 }
 
 // A number in decimal, after a space.
+// By `put`, and not `write!`, for the reason that stands in crate `ascii_text`.
 pub(crate) fn put_number(n: u64, out: &mut [u8], at: usize) -> usize
     ensures { Stands (add_number n (text at out.old)) result out.new }
 {

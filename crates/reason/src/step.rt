@@ -1,4 +1,5 @@
 // What is wrong with a field that its own reader refused.
+// What was needed is told by the first value of whatever refusal is left, as `name_fault`, `block_fault` and `sizes_fault` of specs/Step have it.
 ghost use Rattle.std.specs.Prelude.{◌≡◌};
 ghost use Rattle.wire.specs.Refusals.{row};
 ghost use Rattle.reason.specs.Reason.{fault_said};

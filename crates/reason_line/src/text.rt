@@ -1,5 +1,6 @@
 // The text of the program's line: words and decimal numbers in ASCII, ended by a line feed. Each function puts its text at the start of `out` and answers
 // how many bytes it has. `why_text` lends more room than any line needs.
+// No `write!`, for the reason that stands in crate `ascii_text`.
 ghost use Rattle.std.specs.Prelude.{◌≡◌, ◌≤◌, length};
 ghost use Rattle.io.specs.Counts.{IsPrefixLen};
 ghost use Rattle.paper.specs.Answer.{over};

@@ -54,6 +54,7 @@ impl From<[u8; 4]> for LogRecord {
 }
 
 // Whether this kind opens a transfer.
+// The kind stays a byte, as the service does: a log may have any, and this crate does not stand on `file_operation`.
 fn may_open(kind: u8) -> bool
     ensures { result ≡ opens kind }
 {

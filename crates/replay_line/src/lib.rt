@@ -1,4 +1,5 @@
 // The text that the program `replay_log` prints of a log, and the room that it reads a log into.
+// No `write!`, for the reason that stands in crate `ascii_text`.
 #![tactic(auto)]
 
 ghost use Rattle.std.specs.Prelude.{◌≡◌, ◌≤◌, length, replicate};

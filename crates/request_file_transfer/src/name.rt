@@ -1,4 +1,5 @@
 // The name: read with its length in two bytes and handed back as a place of the message, and judged when it is to be written.
+// The reader is lent the whole message and told where the name begins, since its place counts from the message's start.
 ghost use Rattle.std.specs.Prelude.{◌≡◌};
 ghost use Rattle.paper.specs.Request.{good_name};
 ghost use Rattle.wire.specs.Writing.{told};

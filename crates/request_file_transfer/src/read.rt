@@ -1,4 +1,5 @@
 // Reading a request: mode, name, and only then the kind and what it has after the name.
+// Each reader of a field is lent the whole message and told where the field begins, since the place of the name and that of the tail count from the message's start.
 ghost use Rattle.std.specs.Prelude.{◌≡◌, ◌≤◌, length};
 ghost use Rattle.paper.specs.Request.{format_and_sizes, nothing, format_only};
 ghost use Rattle.wire.specs.Size.{value};

@@ -76,6 +76,7 @@ fn put_rest(layout: AfterName, format: DataFormatIdentifier, size: SizePayload, 
 }
 
 // A request whose name was found good before, as that of a request that was read: it is not looked at again. Too little room is refusal 7; refused, nothing changes.
+// The fields are handed over one by one, here and below: the law `write_request_determined` names the buffer by its place after them.
 pub(crate) fn write_named(
     kind: FileOperationMode,
     file_path_and_name: &[u8],

@@ -1,5 +1,6 @@
 // The text of the line: words and decimal numbers in ASCII, ended by a line feed. Each function writes from the start of `out` and answers
 // how many bytes it wrote. `put_text` lends more room than any line needs, so that no writer of a field refuses: what they answer is not looked at.
+// No `write!`, for the reason that stands in crate `ascii_text`.
 ghost use Rattle.std.specs.Prelude.{◌≡◌, ◌≤◌, length};
 ghost use Rattle.io.specs.Counts.{IsPrefixLen};
 ghost use Rattle.paper.specs.Answer.{over};

@@ -42,7 +42,7 @@ impl From<RoutineControlSubFunction> for u8 {
     }
 }
 
-// The two conversions by name.
+// The two conversions by name: docs/DIFFERENCES.md names them beside the original's.
 impl RoutineControlSubFunction {
     pub fn from_byte(b: u8) -> Result<RoutineControlSubFunction, Refusal>
         ensures { sub_said result ≡ known_sub b }
@@ -92,7 +92,7 @@ impl From<SuppressablePositiveResponse> for u8 {
     }
 }
 
-// The two conversions by name.
+// The two conversions by name: docs/DIFFERENCES.md has them as the byte in and the byte out.
 impl SuppressablePositiveResponse {
     pub fn from_byte(b: u8) -> Result<SuppressablePositiveResponse, Refusal>
         ensures { suppress_said result ≡ suppressable b }

@@ -42,6 +42,7 @@ pub fn argument_count(rt: &impl Env, most: usize) -> usize
 }
 
 // Puts argument `i` at the start of `buf` and answers its length, or 0 where it is missing or longer than `buf`.
+// 0, and no `Option`: to the callers such an argument is an empty one, which names no file and is no word that they know.
 pub fn argument(rt: &impl Env, i: usize, buf: &mut [u8]) -> usize
     ensures { result ≤ length buf.new }
 {

@@ -7,6 +7,7 @@ use crate::count_records;
 use wire::refusal::Refusal;
 
 // The cells of a table one after the other, month by month with ten numbers each, and whether the records were counted; where they were not, the cells are 0.
+// The cells lie as C is handed them. No `Result` of them: `SheetRight` promises zeros beside a refusal, and C reads those.
 #[derive(Clone, Copy)]
 pub struct Sheet {
     pub verdict: Result<(), Refusal>,

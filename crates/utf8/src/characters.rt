@@ -63,6 +63,7 @@ pub(crate) fn by_characters<F: Fn(&[u8]) -> usize>(s: &[u8], step: F) -> usize
     ensures { Longest s.now result }
 {
     let mut at = ascii_blocks(s, 16);
+    // No `for`: a step is as long as the call answers.
     loop {
         let n = step(&s[at..]);
         if n == 0 {

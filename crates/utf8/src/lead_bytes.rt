@@ -39,7 +39,7 @@ pub(crate) enum Class {
     TwoBytes,
 }
 
-// The class that a digit of the table stands for.
+// The class that a digit of the table stands for. A function, and no `From<u64>`: only a digit of the table is the number of a class, and docs/STATEMENTS.md names it.
 fn class_numbered(digit: u64) -> Class
     ensures { seen result ≡ numbered digit }
 {

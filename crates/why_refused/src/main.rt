@@ -14,6 +14,8 @@ fn print_line(rt: &HostRuntime, sort: Sort) -> io::Result<()> {
     rt.write_all(&text[..k])
 }
 
+// As in the other programs with a usage: one function for them all would take `usage_text` as a closure, and so have a `requires`, which no public function here has.
+// A trait as `streams::Case` would be no shorter than these lines.
 fn print_usage(err: &impl Print) -> io::Result<()> {
     let mut text = [0u8; 4096];
     let k = usage_text(&mut text);

@@ -9,6 +9,7 @@ use crate::prefix::Prefix;
 use crate::refusal::Refusal;
 
 // A part of a message: where it begins and how many bytes it has.
+// No slice: the doors hand it to C as two numbers, and in a whole message it is counted again, with the service byte before it.
 #[derive(Clone, Copy, Debug, PartialEq, Eq)]
 pub struct Place {
     pub start: usize,

@@ -43,6 +43,7 @@ pub enum Refusal {
     BadCharacter { place: usize },
 }
 
+// Three methods, and no `From`: C reads a refusal as three numbers, and each name says which.
 impl Refusal {
     // The number in the table.
     pub fn number(self) -> usize

@@ -5,6 +5,7 @@ ghost use Rattle.wire.specs.Size.{value, order_of};
 
 use std::cmp::Ordering;
 
+// Two halves, and no `u128`: the doors take them from C and hand them to C one by one.
 // The high half comes first, so the derived order is that of the numbers.
 #[derive(Clone, Copy, Debug, PartialEq, Eq, PartialOrd, Ord)]
 pub struct Size {
@@ -13,6 +14,7 @@ pub struct Size {
 }
 
 // The order of two sizes by their exact values.
+// By name beside the derived order: docs/STATEMENTS.md names it.
 pub fn compare(a: Size, b: Size) -> Ordering
     ensures { order_of result ≡ compare (value a) (value b) }
 {

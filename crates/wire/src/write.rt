@@ -30,7 +30,7 @@ pub fn put_byte(x: u8, out: &mut [u8]) -> Result<usize, Refusal>
     put_bytes(&[x], out)
 }
 
-// High byte first, here and below.
+// High byte first, here and below. A function for each width: `to_be_bytes` is a method of each type of number, and of no trait of std.
 pub fn put_two(x: u16, out: &mut [u8]) -> Result<usize, Refusal>
     ensures { Wrote (accepted (to_bytes 2 x)) out.old result out.new }
 {

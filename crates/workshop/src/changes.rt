@@ -51,6 +51,7 @@ impl From<ChangesRefusal> for ChangesRecord {
 }
 
 // A second sub-function that does not exist is 15 of the second listing, once the first is found good.
+// It takes its door's own parameters: it is that door up to the record, so that `?` can leave it.
 fn compare(
     first_sub: u8,
     first: &[u8],

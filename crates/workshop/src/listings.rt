@@ -76,6 +76,7 @@ pub struct LookUpRecord {
 }
 
 // The sub-function that a byte of C stands for.
+// A function here, and no `TryFrom` in crate `listing`, whose calls take no byte for a sub-function: that any other byte is 15 is said of the doors, by `listing_sub`.
 pub(crate) fn known_sub(sub: u8) -> Result<SubFunction, Refusal>
     ensures { sub_said result ≡ listing_sub «sub» }
 {
@@ -167,6 +168,7 @@ impl From<Refusal> for ListedRecord {
     }
 }
 
+// It takes its door's own parameters: it is that door up to the record, so that `?` can leave it.
 fn record_in(sub: u8, listing: &[u8], place: usize) -> Result<Option<Listed>, Refusal>
     ensures { placed_said result ≡ listed_record place (listing_handed «sub» listing.now) }
 {
@@ -263,6 +265,7 @@ impl From<Refusal> for LookUpRecord {
     }
 }
 
+// It takes its door's own parameters, the code in one: it is that door up to the record, so that `?` can leave it.
 fn find_in(
     sub: u8,
     listing: &[u8],
@@ -275,7 +278,7 @@ fn find_in(
     look_up(known_sub(sub)?, listing, counts, firsts, code)
 }
 
-// The first record that has the code. Counts and first places are those of the listing's own index, 256 each.
+// The first record that has the code. Counts and first places are those of the listing's own index, 256 each, in two lists since C hands them over so.
 #[unsafe(no_mangle)]
 pub extern "C" fn skr_listing_lookup(
     sub: u8,
