@@ -18,6 +18,7 @@ fn occurs_in(number: usize, table: [[u32; 10]; 12]) -> bool
     false
 }
 
+#[tactic(auto, unfolding(paper::specs::Chart::words))]
 fn words_of(number: usize) -> &'static [u8]
     ensures value { result.now ≡ words number }
     ensures short { length result.now ≤ 20 }

@@ -4,6 +4,7 @@ ghost use Rattle.paper.specs.CodeText.{hex_digits, line_places};
 ghost use Rattle.code_text.specs.CodeText.{value_in};
 
 // The row of a place, counted from the line's start; behind the line it is empty.
+#[tactic(auto, unfolding(paper::specs::CodeText::code_places, paper::specs::CodeText::line_places))]
 fn row(place: usize) -> &'static [u8]
     ensures { result.now ≡ get_or line_places place [] }
 {
