@@ -1,14 +1,15 @@
 -- Document 02, Req 12: what `export_listing` and `import_listing` write of some inputs, by computing the definitions.
 -- Assumes nothing.
 use mathlib.Core.Path.{◌≡◌, refl}
-use Prim.Native.Nat.{ℕ}
+use Prim.Native.Nat.{ℕ, ◌≤◌}
 use Prim.Native.String.{String}
 use mathlib.Core.List.{List, [], ◌∷◌, map}
-use lib.ListN.{replicate}
+use lib.ListN.{length, replicate}
+use borrow.Author.Tests.{le-leb}
 use Rattle.paper.specs.ReadingProgram.{decimal_in, decimal, ascii, text_of}
 use Rattle.paper.specs.Listing.{one_by_one, records_in, read_listing, records_bytes, listing_bytes, first_place, numbers_from}
 use Rattle.paper.specs.CodeText.{code_places, line_places, line_text, lines_text, export_listing, wrong_at, first_wrong, records_in_lines, import_listing}
-use Rattle.paper.specs.ListingProgram.{export_text, Printed, to_output, to_error, import_prints, how_to_use, import_writes}
+use Rattle.paper.specs.ListingProgram.{export_text, Printed, to_output, to_error, listing_or, import_prints, how_to_use, import_writes}
 
 -- ---- export_listing
 abbrev exports : List (List ℕ × String)
@@ -59,7 +60,12 @@ pub imports_right : map (λ (r : String × String × Printed). import_writes (as
 unfolding decimal_in decimal text_of code_places line_places first_place numbers_from wrong_at first_wrong one_by_one records_in_lines records_bytes listing_bytes import_listing import_prints import_writes
 imports_right = refl
 
--- a text of more than 65,536 characters is too long, after an argument that is no mask
+-- a text of up to 65,536 characters is imported
+pub judged : (mask : ℕ) (t : List ℕ) → length t ≤ 65536 → import_prints mask t ≡ listing_or (import_listing mask t)
+unfolding import_prints
+judged mask t h = rw (le-leb _ _ h)
+
+-- one of more is too long, after an argument that is no mask
 pub too_long_lem : import_writes (ascii "7F") (replicate 65537 0) ∷ import_writes (ascii "7f") (replicate 65537 0) ∷ [] ≡ to_error (ascii "too long\n") ∷ to_error how_to_use ∷ []
 unfolding text_of first_place import_prints import_writes
 too_long_lem = refl
