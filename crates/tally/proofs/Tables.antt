@@ -1,4 +1,4 @@
--- What is to hold of tables holds of the calls of this crate: of what `judge_records` and `tally` answer, taken together.
+-- What is to hold of tables holds of the calls of this crate: of what `count_records` answers, and of what `judge_records` and `tally` answer, taken together.
 -- Assumes nothing.
 use mathlib.Core.Path.{◌≡◌, refl, sym, ap, ◌∙◌}
 use Prim.Native.Nat.{ℕ}
@@ -13,10 +13,21 @@ use Rattle.paper.proofs.Choice.{never}
 use Rattle.paper.proofs.Tally.{tables_right}
 use Rattle.wire.specs.Refusals.{row}
 use Rattle.tally.specs.Judged.{judged}
-use Rattle.tally.specs.Calls.{Call, together, Answered}
+use Rattle.tally.specs.Calls.{Call, Told, together, Answered}
 use Rattle.wire.specs.declared.refusal.Refusal.{Refusal}
+use Rattle.tally.proofs.count_records.Reads as count-records
 use Rattle.tally.proofs.judge_records.Reads as judge-records
 use Rattle.tally.proofs.tally.Reads as tally
+
+-- the calls of `count_records` that kept its contract: the programs and the door count by these
+abbrev pub CountCall : List ℕ → Result (List (List ℕ)) Refusal → Type 0
+CountCall = Call count-records.Post
+
+told : (s : List ℕ) (a : Answer (List (List ℕ))) → Told CountCall s a → a ≡ tallied s
+told s a h = h.says ∙ h.counting.met ∙ ap tallied h.counting.lent
+
+pub count_tables_right : TablesRight (Told CountCall)
+count_tables_right = tables_right (Told CountCall) told
 
 -- the calls of `judge_records` and of `tally` that kept their contracts
 abbrev pub JudgeCall : List ℕ → Result (Unit {0}) Refusal → Type 0
@@ -57,6 +68,14 @@ example = record {
   verdict = Ok tt;
   table = january;
   judging = record { lifetimes = ([], tt); args = (lent, tt); exit = (lent, tt); lent = refl; met = refl };
+  counting = record { lifetimes = ([], tt); args = (lent, tt); exit = (lent, tt); lent = refl; met = refl };
+  says = refl;
+}
+
+pub count_example : Told CountCall sheet (accepted january)
+unfolding in_range entries records in_ranges all_good count table tallied
+count_example = record {
+  result = Ok january;
   counting = record { lifetimes = ([], tt); args = (lent, tt); exit = (lent, tt); lent = refl; met = refl };
   says = refl;
 }
