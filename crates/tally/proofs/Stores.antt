@@ -1,7 +1,7 @@
 -- One more in a record's cell makes the table of the records so far the table with that record.
 -- Assumes nothing.
 use mathlib.Core.Path.{◌≡◌, refl, sym, ap, ◌∙◌}
-use Prim.Native.Nat.{ℕ, ◌+◌, ◌≤◌, ◌<◌}
+use Prim.Native.Nat.{ℕ, ◌+◌, ◌*◌, ◌≤◌, ◌<◌}
 use mathlib.Core.List.{List, [], ◌∷◌, ◌++◌, map}
 use native.Mathlib.Nat.{add-zero}
 use native.Mathlib.Numerals.{add-one}
@@ -11,7 +11,7 @@ use lib.Seq.{length-take-le, take_all, take-suc}
 use borrow.Author.Tests.{eq-eqb, ne_eqb}
 use Rattle.paper.specs.Tally.{Entry, entry_of, whole_records, records, count, of_month_and_number, table}
 use Rattle.paper.proofs.Count.{count_append, count_le, from, value_at, values_same, set_value}
-use Rattle.paper.proofs.Tally.{length_records}
+use Rattle.paper.proofs.Tally.{length_records, record_stands}
 use Rattle.tally.proofs.Turns.{record_at}
 
 -- ---- a table of M months from a on by R numbers from b on: with 12 and 10 in their places it would be written out wherever it stands
@@ -85,9 +85,16 @@ module _ (s : List ℕ) (k m n : ℕ) (within : k < whole_records s) (hm : m < 1
       rw (table_cell (take k (records s)) m n hm hn)
       (omega (arith, count_le (of_month_and_number (1 + m) (0 + n)) (take k (records s)), length-take-le k (records s) (omega (arith, length_records s))))
 
-  -- one more there is the table with it
-  pub one_more_lem : (record_at s k).month ≡ 1 + m → (record_at s k).number ≡ 0 + n
+  -- one more there is the table with it, where the record has this month and this number
+  pub one_record_more : (record_at s k).month ≡ 1 + m → (record_at s k).number ≡ 0 + n
       → set (table (take k (records s))) m (set (get_or (table (take k (records s))) m []) n (get_or (get_or (table (take k (records s))) m []) n 0 + 1)) ≡ table (take (k + 1) (records s))
-  one_more_lem em en =
+  one_record_more em en =
       table_more (take k (records s)) (record_at s k) m n hm hn em en
       ∙ ap table (sym (take-suc (records s) k (entry_of []) (omega (arith, length_records s))) ∙ ap (λ (j : ℕ). take j (records s)) (sym (add-one k)))
+
+  -- and where its bytes in the sheet are these
+  pub one_more_lem : get_or s (8 * k) 0 ≡ 1 + m → get_or s (8 * k + 3) 0 ≡ 0 + n
+      → set (table (take k (records s))) m (set (get_or (table (take k (records s))) m []) n (get_or (get_or (table (take k (records s))) m []) n 0 + 1)) ≡ table (take (k + 1) (records s))
+  one_more_lem em en =
+      let e = record_stands s k (entry_of []) within in
+      one_record_more (e.month ∙ em) (e.number ∙ en)

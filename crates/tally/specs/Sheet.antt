@@ -1,5 +1,5 @@
 -- What an answer with both the table and the verdict says, in the paper's terms.
-use Rattle.std.specs.Prelude.{◌≡◌, ℕ, Bool, true, false, eqb, List, [], ◌∷◌, ◌++◌}
+use Rattle.std.specs.Prelude.{◌≡◌, ℕ, Bool, true, false, eqb, List, [], ◌∷◌, ◌++◌, length}
 use Rattle.paper.specs.Answer.{Answer}
 use Rattle.paper.specs.Choice.{pick}
 use Rattle.paper.specs.Tally as paper
@@ -15,6 +15,16 @@ cells_of (r ∷ rows) = r ++ cells_of rows
 unfoldable pub any_count : List ℕ → Bool
 any_count [] = false
 any_count (x ∷ xs) = pick (eqb x 0) (any_count xs) true
+
+-- each row has ten cells
+abbrev pub RowsOfTen : List (List ℕ) → Type 0
+RowsOfTen [] = Unit {0}
+RowsOfTen (r ∷ rows) = (length r ≡ 10) × RowsOfTen rows
+
+-- twelve rows of ten, as every table of the code and of the paper
+pub record Shaped (t : List (List ℕ)) : Type 0 where
+  pub twelve : length t ≡ 12
+  pub ten : RowsOfTen t
 
 -- the verdict and the cells are the paper's
 pub record SheetRight (a : Answer (List (List ℕ))) (r : Sheet) : Type 0 where

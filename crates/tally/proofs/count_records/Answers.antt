@@ -6,8 +6,8 @@ use native.Mathlib.Omega.{arith}
 use lib.ListN.{length}
 use Rattle.std.proofs.lemmas.Result.{err_from_is_err_and}
 use Rattle.paper.specs.Answer.{accepted}
-use Rattle.paper.specs.Tally.{Entry, table, good}
-use Rattle.tally.proofs.Turns.{record_of, good_turn, bad_turn, no-more, length_refused, record_refused, counted, few}
+use Rattle.paper.specs.Tally.{table}
+use Rattle.tally.proofs.Turns.{bytes_of, judged_of, good_turn, bad_turn, no-more, length_refused, record_refused, counted, few}
 use Rattle.tally.proofs.Stores.{table_none, all_taken, room_in_cell, one_more_lem}
 use Rattle.tally.proofs.count_records.Goals as goal
 
@@ -23,8 +23,9 @@ pub returns-then-not-in_ranges : goal.returns-then-not-in_ranges
 returns-then-not-in_ranges c =
     let s = c.args.records.now in
     let l = c.loop-place in
-    let here = ap good (record_of s l.place c.as_chunks.ensures.front) in
-    record_refused s c.in_ok-judge_length.ensures (bad_turn s l.place (omega arith) l.invariant.0 (here ∙ sym c.in_ranges.ensures.value ∙ c.if-not-in_ranges.true))
+    let more : l.place < length s / 8 = omega arith in
+    let here = judged_of (bytes_of s l.place c.as_chunks.ensures.front more) in
+    record_refused s c.in_ok-judge_length.ensures (bad_turn s l.place more l.invariant.0 (here ∙ sym c.in_ranges.ensures.value ∙ c.if-not-in_ranges.true))
 
 pub overflow_add-table : goal.overflow_add-table
 overflow_add-table c =
@@ -38,12 +39,11 @@ pub loop-place-preserved : goal.loop-place-preserved
 loop-place-preserved c =
     let s = c.args.records.now in
     let l = c.loop-place in
-    let is = record_of s l.place c.as_chunks.ensures.front in
     let more : l.place < length s / 8 = omega arith in
-    let f = c.in_ranges.ensures.bounds c.if-not-in_ranges.false in
-    let good_here = ap good is ∙ sym c.in_ranges.ensures.value ∙ c.if-not-in_ranges.false in (
-      good_turn s l.place more l.invariant.0 good_here,
-      rw l.invariant.1 (one_more_lem s l.place _ _ more (omega (arith, f)) (omega (arith, f)) (ap Entry.month is ∙ omega (arith, f)) (ap Entry.number is ∙ omega arith)),
+    let bytes = bytes_of s l.place c.as_chunks.ensures.front more in
+    let f = c.in_ranges.ensures.bounds c.if-not-in_ranges.false in (
+      good_turn s l.place more l.invariant.0 (judged_of bytes ∙ sym c.in_ranges.ensures.value ∙ c.if-not-in_ranges.false),
+      rw l.invariant.1 (one_more_lem s l.place _ _ more (omega (arith, f)) (omega (arith, f)) (bytes.month ∙ omega (arith, f)) (bytes.number ∙ omega arith)),
     )
 
 pub returns : goal.returns
