@@ -4,13 +4,14 @@ use Prim.Native.Nat.{ℕ, zero, suc, ◌+◌, ◌-◌, ◌*◌, ◌/◌, ◌%◌
 use mathlib.Core.Path.{◌≡◌, refl, sym}
 use mathlib.Core.List.{List, [], ◌∷◌, ◌++◌, append_assoc, append-nil}
 use native.Mathlib.Nat.{zero-add, suc-add, mul_comm, pow-suc, mod-lt, mod-eq_of_lt, div-div-eq-div-mul, pow-le-pow_right}
+use native.Mathlib.Numerals.{add-one}
 use native.Mathlib.Omega.{arith}
 use borrow.Author.Tests.{lt-leb, le-leb}
 use lib.Arith.{mod-mul, digits_div, digits_mod}
 use lib.Dec.{lit<}
-use lib.ListN.{length, take, drop, length-append}
+use lib.ListN.{length, drop, set, length-append}
 use lib.Pow.{pow-add}
-use lib.Seq.{drop_at, take_all}
+use lib.Seq.{drop-cons, lt-length-set, get_or-set_same, drop-set-lt}
 use Rattle.std.specs.Int.{bytes_high_first, byte_at}
 use Rattle.paper.specs.Answer.{accepted, refused, wrong_format}
 use Rattle.paper.specs.Bytes.{to_bytes}
@@ -25,6 +26,10 @@ use Rattle.wire.specs.declared.prefix.Prefix.{Prefix}
 use Rattle.wire.specs.declared.prefix.Prefix.TheVariants.{One, Two}
 
 -- ---- a number that fits
+-- without its low byte it fits in one byte less
+pub fits-less : (w : ℕ) {n : ℕ} → n < 256 ^ suc w → n / 256 < 256 ^ w
+fits-less w h = omega (arith, pow-suc 256 w)
+
 -- its bytes are those of its high part, in front of those of its low one
 pub to_bytes_parts : (k j n : ℕ) → n < 256 ^ (k + j) → to_bytes (k + j) n ≡ to_bytes k (n / 256 ^ j) ++ to_bytes j (n % 256 ^ j)
 unfolding to_bytes
@@ -52,19 +57,21 @@ high_first (suc w) n =
 pub be_bytes : (w n : ℕ) → n < 256 ^ w → bytes_high_first w n ≡ to_bytes w n
 be_bytes w n h = rw (high_first w n, mod-eq_of_lt h)
 
--- of eight bytes, the last w are those of a number that fits in them
-pub last_bytes : (w n : ℕ) → w ≤ 8 → n < 256 ^ w → n < 256 ^ 8 → take (8 - (8 - w)) (drop (8 - w) (bytes_high_first 8 n)) ≡ to_bytes w n
-last_bytes w n few h g =
-    let whole : 8 - w + w ≡ 8 = omega arith in
-    let left : 8 - (8 - w) ≡ w = omega arith in
-    let parts = rw (whole, mod-eq_of_lt h) at (to_bytes_parts (8 - w) w n (rw whole g)) in
-    rw (be_bytes 8 n g, parts, drop_at (to_bytes (8 - w) (n / 256 ^ w)) (to_bytes w n) (8 - w) (length_to_bytes _ _), left)
-    (take_all w (to_bytes w n) (omega (arith, length_to_bytes w n)))
-
 -- a number in one byte is that byte
 pub one_byte : (b : ℕ) → to_bytes 1 b ≡ b ∷ []
 unfolding to_bytes
 one_byte b = let whole : b / 1 ≡ b = omega arith in rw whole
+
+-- the low byte comes last, after the bytes of the number without it
+low_last : (w n : ℕ) → n < 256 ^ suc w → to_bytes (suc w) n ≡ to_bytes w (n / 256) ++ (n % 256 ∷ [])
+low_last w n h = rw (add-one w, one_byte (n % 256)) at (to_bytes_parts w 1 n (rw (add-one w) h))
+
+-- the bytes still to come, in front of those that stand there, stay the same where the low byte is stored
+pub low_store : (w n : ℕ) (out : List ℕ) → n < 256 ^ suc w → w < length out
+    → to_bytes w (n / 256) ++ drop w (set out w (n % 256)) ≡ to_bytes (suc w) n ++ drop (suc w) out
+low_store w n out h l =
+    rw (low_last w n h, drop-cons (set out w (n % 256)) w 0 (lt-length-set out w (n % 256) l), get_or-set_same out w (n % 256) 0 l, drop-set-lt (suc w) out w (n % 256) (omega arith))
+    (sym (append_assoc (to_bytes w (n / 256)) (n % 256 ∷ []) (drop (suc w) out)))
 
 -- ---- a size that fits: its halves
 module _ (w h l : ℕ) (fits : h * 2 ^ 64 + l < 256 ^ w) where

@@ -20,7 +20,10 @@ pub fn put_bytes(src: &[u8], out: &mut [u8]) -> Result<usize, Refusal>
     if room < needed {
         return Err(Refusal::NoRoom { needed, room });
     }
-    out[..needed].copy_from_slice(src);
+    // A loop, and no `copy_from_slice`: that is a call of `memmove`, which the archive for C would need from outside.
+    for i in 0..needed {
+        out[i] = src[i];
+    }
     Ok(needed)
 }
 
@@ -43,12 +46,24 @@ pub fn put_eight(x: u64, out: &mut [u8]) -> Result<usize, Refusal>
     put_bytes(&u64::to_be_bytes(x), out)
 }
 
-// A number that fits in `width` bytes, of which there are at most eight.
+// A number that fits in `width` bytes, of which there are at most eight: stored from the low byte up to the front.
 fn put_half(x: u64, width: usize, out: &mut [u8]) -> Result<usize, Refusal>
     requires { (x < 256 ^ width) × (width ≤ 8) }
     ensures { Wrote (accepted (to_bytes width x)) out.old result out.new }
 {
-    put_bytes(&x.to_be_bytes()[8 - width..], out)
+    let room = out.len();
+    if room < width {
+        return Err(Refusal::NoRoom {
+            needed: width,
+            room,
+        });
+    }
+    let mut rest = x;
+    for i in (0..width).rev() {
+        out[i] = (rest % 256) as u8;
+        rest /= 256;
+    }
+    Ok(width)
 }
 
 // A size that fits in `width` bytes: up to eight of them hold its low half, and those in front of eight its high half.
