@@ -8,10 +8,12 @@ import collections
 import os
 import re
 
+import block_names
 import drawn_changes
 
 Part = collections.namedtuple("Part", "name text")
-HEAD = re.compile(r"^(?:impl(?:<[^>]*>)? (?P<type>\w+)|(?P<close>\})|(?:[^/\n]*\b)?fn\s+(?P<fn>\w+))", re.M)
+NAME = re.compile(r"\bfn\s+(\w+)")
+TYPE = re.compile(r"^(?:pub(?:\(\w+\))? )?(?:struct|enum) (\w+)", re.M)
 CONSTANT = re.compile(r"^[^/\n]*\bconst (\w+): [^=\n]*=([^;]*(?:;[^;\n]+)*);$", re.M)
 CONTRACT = "the contract of "
 # what a proof says that names something which is gone, or that rests on what is refused
@@ -24,45 +26,42 @@ def module_of(crate, file):
     return "::".join([crate, *(p for p in parts if p not in ("lib", "main", "mod"))])
 
 
-def heads(crate, file, text):
-    """Where each function begins, and what the check calls it."""
-    owner = ""
-    for head in HEAD.finditer(text):
-        if head["fn"]:
-            yield head.start(), f"{module_of(crate, file)}::{owner}{head['fn']}"
-        else:
-            owner = f"{head['type']}::" if head["type"] else ""
-
-
 def words_of(text):
     return set(re.findall(r"\w+", text))
-
-
-def parts_of(crate, file, text):
-    """A file in parts: the contracts and the bodies of its functions, the values of its constants, and what stands between, which has no name."""
-    regions = []
-    for (start, end), (head, name) in zip(sorted(drawn_changes.function_bodies(text)), heads(crate, file, text)):
-        regions += [(head, start, CONTRACT + name), (start, end, name)]
-    regions += [(*found.span(2), found[1]) for found in CONSTANT.finditer(text) if not any(start < found.start() < end for start, end, _ in regions)]
-    parts, at = [], 0
-    for start, end, name in sorted(regions):
-        parts += [Part(None, text[at:start]), Part(name, text[start:end])]
-        at = end
-    return [*parts, Part(None, text[at:])]
 
 
 class Functions:
     def __init__(self, folder, crate):
         self.folder, self.crate = folder, crate
-        self.parts = {file: self.parts_in(file, text) for file, text in self.texts("src", "*.rt").items()}
+        code = self.texts("src", "*.rt")
+        self.homes = {name: file for file, text in code.items() for name in TYPE.findall(text)}
+        self.parts = {file: self.parts_in(file, text) for file, text in code.items()}
+        self.of_traits = {name for file, text in code.items() for *_, block, name in self.functions(file, text) if block and block.of_trait}
         self.laws = {**self.texts("specs", "*.antt"), **self.texts("proofs", "*.antt")}
         self.names = {part.name.removeprefix(CONTRACT) for part in self.all_parts() if part.name and part.name.startswith(CONTRACT)}
 
     def texts(self, part, pattern):
         return {str(p.relative_to(self.folder)): p.read_text(encoding="utf-8") for p in sorted((self.folder / part).rglob(pattern))}
 
+    def functions(self, file, text):
+        """Where each function's head begins, where its body begins and ends, its block, and what the check calls it: in an `impl` of no trait after the file that declares the type."""
+        inside = list(block_names.blocks(text))
+        for head, start, end in drawn_changes.functions(text):
+            block = next((block for block in inside if block.start < head < block.end), None)
+            home = file if not block or block.of_trait else self.homes.get(block.owner.split("+")[0], file)
+            yield head, start, end, block, "::".join([module_of(self.crate, home), *([block.owner] if block else []), NAME.search(text, head)[1]])
+
     def parts_in(self, file, text):
-        return parts_of(self.crate, file, text)
+        """A file in parts: the contracts and the bodies of its functions, the values of its constants, and what stands between, which has no name."""
+        regions = []
+        for head, start, end, _, name in self.functions(file, text):
+            regions += [(head, start, CONTRACT + name), (start, end, name)]
+        regions += [(*found.span(2), found[1]) for found in CONSTANT.finditer(text) if not any(start < found.start() < end for start, end, _ in regions)]
+        parts, at = [], 0
+        for start, end, name in sorted(regions):
+            parts += [Part(None, text[at:start]), Part(name, text[start:end])]
+            at = end
+        return [*parts, Part(None, text[at:])]
 
     def all_parts(self):
         return [part for parts in self.parts.values() for part in parts]
@@ -105,15 +104,15 @@ class Functions:
         return self.joined({part.name for part in self.all_parts() if word.search(re.sub(r"//.*|^(?:pub )?use .*", "", part.text, flags=re.M))}) or None
 
     def is_read(self, function):
-        """Whether a contract is read: by a function that calls this one, or by a file of proofs/ that is not its own."""
+        """Whether a contract is read: by a function that calls this one, as one of a trait is called under other words too (`into`, `?`), or by a file of proofs/ that is not its own."""
         own, word = self.proof_of(function), function.split("::")[-1]
-        return any(part.name in self.names and re.search(rf"\b{word}\s*\(", part.text) for part in self.all_parts()) or any(
+        return function in self.of_traits or any(part.name in self.names and re.search(rf"\b{word}\s*\(", part.text) for part in self.all_parts()) or any(
             re.search(rf"\b{word}\b", text) for file, text in self.laws.items() if not file.startswith(own)
         )
 
     def is_opened(self, function):
         """Whether a file of proofs/ that is not the function's own names what the check makes of its body."""
-        path = "\\.".join(function.split("::")[1:])
+        path = r"\.".join(map(re.escape, function.split("::")[1:]))
         return any(re.search(rf"\.{path}\.(?:Code|Lts|Tie|Goals)\b", text.replace("«", "").replace("»", "")) for file, text in self.laws.items() if not file.startswith(self.proof_of(function)))
 
     @staticmethod

@@ -138,14 +138,21 @@ def closing(text, at):
             return at
 
 
-def function_bodies(text):
-    """Where the body of each function begins and ends."""
+def functions(text):
+    """Where the head of each function begins, and its body begins and ends; a method of a trait that ends in `;` has none."""
     for head in re.finditer(r"^[^/\n]*\bfn\s+\w+", text, re.M):
-        at = re.compile(r"\b(?:requires|ensures)\b|\{").search(text, head.end()).start()
+        at = re.compile(r"\b(?:requires|ensures)\b|\{|;\n").search(text, head.end()).start()
         while clause := CLAUSE.match(text, at):
             at = closing(text, clause.end() - 1)
-        body = text.index("{", at)
-        yield body, closing(text, body)
+        body = re.compile(r"[{;]").search(text, at).start()
+        if text[body] == "{":
+            yield head.start(), body, closing(text, body)
+
+
+def function_bodies(text):
+    """Where the body of each function begins and ends."""
+    for _, start, end in functions(text):
+        yield start, end
 
 
 def code_regions(text):
