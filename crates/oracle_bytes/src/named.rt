@@ -10,7 +10,7 @@ use routine_control::sub_function::RoutineControlSubFunction;
 pub(crate) fn put_format(b: u8, out: &mut [u8], at: usize) -> usize
     ensures { IsPrefixLen result out.new }
 {
-    let f = DtcFormatIdentifier::from(b);
+    let f = DtcFormatIdentifier::from_byte(b);
     let name = match f {
         DtcFormatIdentifier::SaeJ2012DaDtcFormat00 => 0,
         DtcFormatIdentifier::Iso14229_1DtcFormat => 1,
@@ -19,14 +19,14 @@ pub(crate) fn put_format(b: u8, out: &mut [u8], at: usize) -> usize
         DtcFormatIdentifier::SaeJ2012DaDtcFormat04 => 4,
         DtcFormatIdentifier::IsoSaeReserved(_) => 5,
     };
-    put_numbers(&[name, u64::from(u8::from(f))], out, at)
+    put_numbers(&[name, u64::from(f.value())], out, at)
 }
 
 // Which group it is, likewise, and its byte.
 pub(crate) fn put_group(b: u8, out: &mut [u8], at: usize) -> usize
     ensures { IsPrefixLen result out.new }
 {
-    let g = FunctionalGroupIdentifier::from(b);
+    let g = FunctionalGroupIdentifier::from_byte(b);
     let name = match g {
         FunctionalGroupIdentifier::IsoSaeReserved(_) => 0,
         FunctionalGroupIdentifier::EmissionsSystemGroup => 1,
@@ -34,7 +34,7 @@ pub(crate) fn put_group(b: u8, out: &mut [u8], at: usize) -> usize
         FunctionalGroupIdentifier::LegislativeSystemGroup(_) => 3,
         FunctionalGroupIdentifier::VobdSystem => 4,
     };
-    put_numbers(&[name, u64::from(u8::from(g))], out, at)
+    put_numbers(&[name, u64::from(g.value())], out, at)
 }
 
 // The byte, and whether it is reserved.
@@ -49,8 +49,8 @@ pub(crate) fn put_record_number(b: u8, out: &mut [u8], at: usize) -> usize
 pub(crate) fn put_sub_function(b: u8, out: &mut [u8], at: usize) -> usize
     ensures { IsPrefixLen result out.new }
 {
-    match RoutineControlSubFunction::try_from(b) {
-        Ok(f) => put_numbers(&[0, 0, 0, u64::from(u8::from(f))], out, at),
+    match RoutineControlSubFunction::from_byte(b) {
+        Ok(f) => put_numbers(&[0, 0, 0, u64::from(f.value())], out, at),
         Err(e) => put_refused(e, 1, out, at),
     }
 }

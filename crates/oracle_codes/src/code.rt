@@ -34,7 +34,7 @@ pub(crate) fn put_equal(input: &[u8], out: &mut [u8], at: usize) -> usize
     };
     let code = DtcRecord::new(high, middle, low);
     let other = DtcRecord::new(other_high, other_middle, other_low);
-    put_numbers(&[u64::from(code == other)], out, at)
+    put_numbers(&[u64::from(code.equals(other))], out, at)
 }
 
 // The code and where the next field begins, or the refusal.

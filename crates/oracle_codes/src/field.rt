@@ -62,7 +62,7 @@ impl Field {
         match self {
             Field::Status => DtcStatusMask::from_bits(b).encode(room),
             Field::Severity => DtcSeverityMask::from_bits(b).encode(room),
-            Field::Group => FunctionalGroupIdentifier::from(b).encode(room),
+            Field::Group => FunctionalGroupIdentifier::from_byte(b).encode(room),
             Field::RecordNumber => DtcStoredDataRecordNumber::new(b).encode(room),
         }
     }

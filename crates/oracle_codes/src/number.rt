@@ -22,12 +22,12 @@ impl Sums {
         requires { n ≤ 0x00FFFFFF }
         ensures { self.new.made ≡ (self.old.made + 1) % 2 ^ 64 }
     {
-        let Ok(code) = DtcRecord::try_from(n) else {
+        let Ok(code) = DtcRecord::from_u32(n) else {
             return;
         };
         let mut bytes = [0u8; 3];
         let written = code.encode(&mut bytes) == Ok(3) && number_at(&bytes, 0, 3) == u64::from(n);
-        let again = DtcRecord::decode(&bytes, 0) == Ok((code, 3));
+        let again = matches!(DtcRecord::decode(&bytes, 0), Ok((again, 3)) if again.equals(code));
         self.made = self.made.wrapping_add(1);
         self.back = self.back.wrapping_add(u64::from(code.to_u32() == n));
         self.written = self.written.wrapping_add(u64::from(written));

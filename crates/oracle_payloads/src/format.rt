@@ -10,6 +10,6 @@ pub(crate) fn put_format(input: &[u8], out: &mut [u8], at: usize) -> usize
     let &[b] = input else {
         return 0;
     };
-    let format = DataFormatIdentifier::from(b);
-    put_numbers(&[u64::from(u8::from(format))], out, at)
+    let format = DataFormatIdentifier::from_byte(b);
+    put_numbers(&[u64::from(format.value())], out, at)
 }

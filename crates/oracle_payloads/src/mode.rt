@@ -12,7 +12,7 @@ fn put_answered(mode: Result<FileOperationMode, Refusal>, out: &mut [u8], at: us
     ensures { IsPrefixLen result out.new }
 {
     match mode {
-        Ok(mode) => put_numbers(&[0, 0, 0, u64::from(u8::from(mode))], out, at),
+        Ok(mode) => put_numbers(&[0, 0, 0, u64::from(mode.value())], out, at),
         Err(e) => put_refused(e, 1, out, at),
     }
 }
@@ -23,7 +23,7 @@ pub(crate) fn put_mode(input: &[u8], out: &mut [u8], at: usize) -> usize
     let &[b] = input else {
         return 0;
     };
-    put_answered(FileOperationMode::try_from(b), out, at)
+    put_answered(FileOperationMode::from_byte(b), out, at)
 }
 
 pub(crate) fn put_mode_of(message: &[u8], out: &mut [u8], at: usize) -> usize
