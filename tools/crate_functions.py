@@ -104,7 +104,7 @@ class Functions:
         return self.joined({part.name for part in self.all_parts() if word.search(re.sub(r"//.*|^(?:pub )?use .*", "", part.text, flags=re.M))}) or None
 
     def is_read(self, function):
-        """Whether a contract is read: by a function that calls this one, as one of a trait is called under other words too (`into`, `?`), or by a file of proofs/ that is not its own."""
+        """Whether a contract is read: by a function that calls this one (one of a trait is called by other words too, as `into` and `?`), or by a file of proofs/ that is not its own."""
         own, word = self.proof_of(function), function.split("::")[-1]
         return function in self.of_traits or any(part.name in self.names and re.search(rf"\b{word}\s*\(", part.text) for part in self.all_parts()) or any(
             re.search(rf"\b{word}\b", text) for file, text in self.laws.items() if not file.startswith(own)
