@@ -337,6 +337,54 @@ impl Mask<Status> {
     }
 }
 
+// The bit that each name stands for: these a clause can name, and a constant of one sort of mask it cannot.
+impl Status {
+    const TestFailed: u8 = 0x01;
+
+    const TestFailedThisOperationCycle: u8 = 0x02;
+
+    const PendingDtc: u8 = 0x04;
+
+    const ConfirmedDtc: u8 = 0x08;
+
+    const TestNotCompletedSinceLastClear: u8 = 0x10;
+
+    const TestFailedSinceLastClear: u8 = 0x20;
+
+    const TestNotCompletedThisOperationCycle: u8 = 0x40;
+
+    const WarningIndicatorRequested: u8 = 0x80;
+
+    // What the paper says of each; and each mask is the bit of its name. Nobody calls this: its promise and what it proves are the table.
+    fn constants()
+        ensures test_failed { Status.TestFailed ≡ mask_of test_failed }
+        ensures test_failed_this_operation_cycle { Status.TestFailedThisOperationCycle ≡ mask_of test_failed_this_operation_cycle }
+        ensures pending_dtc { Status.PendingDtc ≡ mask_of pending_dtc }
+        ensures confirmed_dtc { Status.ConfirmedDtc ≡ mask_of confirmed_dtc }
+        ensures test_not_completed_since_last_clear { Status.TestNotCompletedSinceLastClear ≡ mask_of test_not_completed_since_last_clear }
+        ensures test_failed_since_last_clear { Status.TestFailedSinceLastClear ≡ mask_of test_failed_since_last_clear }
+        ensures test_not_completed_this_operation_cycle { Status.TestNotCompletedThisOperationCycle ≡ mask_of test_not_completed_this_operation_cycle }
+        ensures warning_indicator_requested { Status.WarningIndicatorRequested ≡ mask_of warning_indicator_requested }
+    {
+        prove!(DtcStatusMask::TestFailed.bits == Status::TestFailed);
+        prove!(
+            DtcStatusMask::TestFailedThisOperationCycle.bits == Status::TestFailedThisOperationCycle
+        );
+        prove!(DtcStatusMask::PendingDtc.bits == Status::PendingDtc);
+        prove!(DtcStatusMask::ConfirmedDtc.bits == Status::ConfirmedDtc);
+        prove!(
+            DtcStatusMask::TestNotCompletedSinceLastClear.bits
+                == Status::TestNotCompletedSinceLastClear
+        );
+        prove!(DtcStatusMask::TestFailedSinceLastClear.bits == Status::TestFailedSinceLastClear);
+        prove!(
+            DtcStatusMask::TestNotCompletedThisOperationCycle.bits
+                == Status::TestNotCompletedThisOperationCycle
+        );
+        prove!(DtcStatusMask::WarningIndicatorRequested.bits == Status::WarningIndicatorRequested);
+    }
+}
+
 // ---- The severity mask.
 
 // The names of a severity.
@@ -441,6 +489,46 @@ impl Mask<Severity> {
         ensures { result ≡ severity_valid self.bits }
     {
         self.bits % 32 != 0
+    }
+}
+
+// The bit that each name stands for: these a clause can name, and a constant of one sort of mask it cannot.
+impl Severity {
+    const DtcClass0: u8 = 0x01;
+
+    const DtcClass1: u8 = 0x02;
+
+    const DtcClass2: u8 = 0x04;
+
+    const DtcClass3: u8 = 0x08;
+
+    const DtcClass4: u8 = 0x10;
+
+    const MaintenanceOnly: u8 = 0x20;
+
+    const CheckAtNextHalt: u8 = 0x40;
+
+    const CheckImmediately: u8 = 0x80;
+
+    // What the paper says of each; and each mask is the bit of its name. Nobody calls this: its promise and what it proves are the table.
+    fn constants()
+        ensures dtc_class_0 { Severity.DtcClass0 ≡ mask_of (dtc_class 0) }
+        ensures dtc_class_1 { Severity.DtcClass1 ≡ mask_of (dtc_class 1) }
+        ensures dtc_class_2 { Severity.DtcClass2 ≡ mask_of (dtc_class 2) }
+        ensures dtc_class_3 { Severity.DtcClass3 ≡ mask_of (dtc_class 3) }
+        ensures dtc_class_4 { Severity.DtcClass4 ≡ mask_of (dtc_class 4) }
+        ensures maintenance_only { Severity.MaintenanceOnly ≡ mask_of maintenance_only }
+        ensures check_at_next_halt { Severity.CheckAtNextHalt ≡ mask_of check_at_next_halt }
+        ensures check_immediately { Severity.CheckImmediately ≡ mask_of check_immediately }
+    {
+        prove!(DtcSeverityMask::DtcClass0.bits == Severity::DtcClass0);
+        prove!(DtcSeverityMask::DtcClass1.bits == Severity::DtcClass1);
+        prove!(DtcSeverityMask::DtcClass2.bits == Severity::DtcClass2);
+        prove!(DtcSeverityMask::DtcClass3.bits == Severity::DtcClass3);
+        prove!(DtcSeverityMask::DtcClass4.bits == Severity::DtcClass4);
+        prove!(DtcSeverityMask::MaintenanceOnly.bits == Severity::MaintenanceOnly);
+        prove!(DtcSeverityMask::CheckAtNextHalt.bits == Severity::CheckAtNextHalt);
+        prove!(DtcSeverityMask::CheckImmediately.bits == Severity::CheckImmediately);
     }
 }
 
