@@ -1,23 +1,22 @@
 -- A turn of each loop over a listing's records: one record more in the index, and one step of a search.
 -- Assumes nothing.
 use mathlib.Core.Path.{◌≡◌, refl, sym, ap, ap₂, ◌∙◌}
-use Prim.Native.Nat.{ℕ, zero, suc, ◌+◌, ◌-◌, ◌≤◌, ◌<◌}
+use Prim.Native.Nat.{ℕ, ◌+◌, ◌-◌, ◌≤◌, ◌<◌}
 use mathlib.Core.Bool.{Bool, true, false, ◌&&◌}
 use mathlib.Core.List.{List, [], ◌∷◌, ◌++◌}
 use mathlib.Core.Option.{some}
-use native.Mathlib.Nat.{sub-zero}
 use native.Mathlib.Numerals.{add-one}
 use native.Mathlib.Omega.{arith}
+use borrow.Author.Tests.{eq-eqb, ne_eqb}
 use lib.ListN.{get_or, get_elem?, set, drop, replicate}
 use lib.Dec.{eqb}
 use lib.Pointwise.{pointwise}
-use mir.Val.{bool_byte}
 use Rattle.paper.specs.Choice.{both}
-use Rattle.paper.specs.Answer.{accepted, refused, no_such_code}
+use Rattle.paper.specs.Answer.{accepted}
 use Rattle.paper.specs.TroubleCode.{TroubleCode}
-use Rattle.paper.specs.Listing.{SubFunction, Listed, one_by_one, records_in, how_many, first_with, Index, index_of, same_numbers, own_index, has_high, has_code, find}
+use Rattle.paper.specs.Listing.{SubFunction, Listed, one_by_one, records_in, how_many, first_with, Index, index_of, same_numbers, own_index, has_code, find}
 use Rattle.paper.proofs.Listing.{length_records, record_there, records-more}
-use Rattle.paper.proofs.ListingIndex.{no_counts, no_firsts, counted-more, new_first, old_first, count_small, count_at, first_at, Searching, search_starts, search_ends, search_within, search_found, search_less, search_on}
+use Rattle.paper.proofs.ListingIndex.{no_counts, no_firsts, counted-more, new_first, old_first, count_small, count_at, first_at, Searching, search_starts, search_within, search_found, search_less, search_on}
 use Rattle.dtc.specs.Status.{same_code}
 use Rattle.listing.specs.Listing.{records_of, record_here}
 use Rattle.std.specs.Prelude.{Option, Some, None}
@@ -103,38 +102,33 @@ three false y z = refl
 pub code_same : (a b : TroubleCode) {same : Bool} → same ≡ eqb a.high b.high && (eqb a.middle b.middle && eqb a.low b.low) → same_code a b ≡ same
 code_same a b is = three (eqb a.high b.high) (eqb a.middle b.middle) (eqb a.low b.low) ∙ sym is
 
-nought : (n : ℕ) → (0 < n → ⊥) → n ≡ 0
-nought zero h = refl
-nought (suc n) h = absurd (h (omega arith))
-
 -- it starts where the index says
 pub started : (f : SubFunction) (s : List ℕ) (n : ℕ) (c : TroubleCode) {x : Index} {h : ℕ} → x ≡ index_of (records_of f n s) → h < 256 → h ≡ c.high
     → Searching c (records_of f n s) (get_or x.firsts h 0) (get_or x.counts h 0)
 started f s n c own small is = rw (own_first (records_of f n s) _ _ own small is, own_count (records_of f n s) _ _ own small is) (search_starts c (records_of f n s))
 
-module _ (f : SubFunction) (s : List ℕ) (n : ℕ) (c : TroubleCode) (k left : ℕ) (now : Searching c (records_of f n s) k left) where
-  -- behind the last record none is left
-  pub none_behind : n ≤ k → find 0 c (records_of f n s) ≡ refused no_such_code
-  none_behind l =
-      search_ends c (records_of f n s) k left now (nought left (λ h. let within = search_within c (records_of f n s) k left now h in omega (arith, length_records f n (drop 3 s))))
+module _ (f : SubFunction) (s : List ℕ) (n : ℕ) (c : TroubleCode) (k left : ℕ) (now : Searching c (records_of f n s) k left) (some_left : 0 < left) where
+  -- some are left, so that there is a record here
+  pub here_is : k < n
+  here_is = omega (arith, search_within c (records_of f n s) k left now some_left, length_records f n (drop 3 s))
 
-  module _ (below : k < n) (r : Listed) (is : r ≡ record_here f s k) where
+  module _ (r : Listed) (is : r ≡ record_here f s k) where
     stands : get_elem? (records_of f n s) k ≡ some r
-    stands = rw is (record_there f n k (drop 3 s) below)
+    stands = rw is (record_there f n k (drop 3 s) here_is)
 
     -- the code that was asked for
     pub found_here : same_code r.code c ≡ true → accepted (record { place = k; «record» = r }) ≡ find 0 c (records_of f n s)
     unfolding has_code
     found_here e = sym (search_found c (records_of f n s) k left now r stands e)
 
-    -- another
-    pub goes_on_lem : same_code r.code c ≡ false → {a b one : ℕ} → a ≡ r.code.high → b ≡ c.high → one ≡ bool_byte (eqb a b) → Searching c (records_of f n s) (k + 1) (left - one)
+    -- another, with the high byte
+    pub used_up : same_code r.code c ≡ false → {a b : ℕ} → a ≡ r.code.high → b ≡ c.high → a ≡ b → Searching c (records_of f n s) (k + 1) (left - 1)
     unfolding has_code
-    goes_on_lem e p q is = rw (add-one k, is, p, q) (by (has_high c.high r) refl)
-      where
-        by : (b : Bool) → has_high c.high r ≡ b → Searching c (records_of f n s) (suc k) (left - bool_byte b)
-        by true h = search_less c (records_of f n s) k left now r stands h e
-        by false h = rw (sub-zero left) (search_on c (records_of f n s) k left now r stands h)
+    used_up e p q same = rw (add-one k) (search_less c (records_of f n s) k left now r stands (eq-eqb _ _ (sym p ∙ same ∙ q)) e)
+
+    -- and with another one
+    pub passed_over : {a b : ℕ} → a ≡ r.code.high → b ≡ c.high → (a ≡ b → ⊥) → Searching c (records_of f n s) (k + 1) left
+    passed_over p q other = rw (add-one k) (search_on c (records_of f n s) k left now r stands (ne_eqb _ _ (λ same. other (p ∙ same ∙ sym q))))
 
 -- where none was found, it is 16
 pub looked : (found : Option (ℕ × listing.Listed)) → look_said (ok_or found Refusal.NoSuchCode) ≡ found_said found

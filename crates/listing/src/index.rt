@@ -97,15 +97,20 @@ impl<'a> Searchable<'a> {
     {
         let high = usize::from(code.high_byte());
         let mut left = self.index.counts[high];
+        if left == 0 {
+            return None;
+        }
         for k in self.index.firsts[high] as usize..self.records.count {
-            if left == 0 {
-                return None;
-            }
             let listed = self.records.at(k);
             if listed.code == code {
                 return Some((k, listed));
             }
-            left -= u32::from(listed.code.high_byte() == code.high_byte());
+            if listed.code.high_byte() == code.high_byte() {
+                left -= 1;
+                if left == 0 {
+                    return None;
+                }
+            }
         }
         None
     }
