@@ -5,3 +5,4 @@ pub mod Exported
 pub mod Imported
 pub mod Unique
 pub mod Calls
+pub mod Rows

@@ -65,6 +65,23 @@ hex_row (suc (suc (suc (suc (suc (suc (suc (suc (suc zero))))))))) a b c d = ref
 hex_row (suc (suc (suc (suc (suc (suc (suc (suc (suc (suc zero)))))))))) a b c d = refl
 hex_row (suc (suc (suc (suc (suc (suc (suc (suc (suc (suc (suc j))))))))))) a b c d = absurd (omega arith)
 
+-- and no other row is as long
+pub hex_alone : (j : ℕ) → length (get_or line_places j []) ≡ 16 → hex_digits ≡ get_or line_places j []
+unfolding code_places line_places
+hex_alone zero h = absurd (omega (arith, h))
+hex_alone (suc zero) h = absurd (omega (arith, h))
+hex_alone (suc (suc zero)) h = refl
+hex_alone (suc (suc (suc zero))) h = refl
+hex_alone (suc (suc (suc (suc zero)))) h = refl
+hex_alone (suc (suc (suc (suc (suc zero))))) h = absurd (omega (arith, h))
+hex_alone (suc (suc (suc (suc (suc (suc zero)))))) h = refl
+hex_alone (suc (suc (suc (suc (suc (suc (suc zero))))))) h = refl
+hex_alone (suc (suc (suc (suc (suc (suc (suc (suc zero)))))))) h = absurd (omega (arith, h))
+hex_alone (suc (suc (suc (suc (suc (suc (suc (suc (suc zero))))))))) h = refl
+hex_alone (suc (suc (suc (suc (suc (suc (suc (suc (suc (suc zero)))))))))) h = refl
+hex_alone (suc (suc (suc (suc (suc (suc (suc (suc (suc (suc (suc zero))))))))))) h = absurd (omega (arith, h))
+hex_alone (suc (suc (suc (suc (suc (suc (suc (suc (suc (suc (suc (suc j)))))))))))) h = absurd (omega (arith, h))
+
 pub no_row : (j : ℕ) → 12 ≤ j → [] ≡ get_or line_places j []
 unfolding code_places line_places
 no_row j h = sym (get_or-eq_default line_places [] {n = j} h)

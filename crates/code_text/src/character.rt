@@ -36,16 +36,25 @@ fn place_of(row: &[u8], c: u8) -> Option<usize>
     row.iter().position(|x| c == *x)
 }
 
+// The number of a hex digit, 0 to 9 and then A to F. By comparisons: nearly all of a text is hex digits, and a search of their row takes longer.
+pub fn hex_value(c: u8) -> Option<usize>
+    ensures { result ≡ value_in hex_digits c }
+{
+    match c {
+        b'0'..=b'9' => Some(usize::from(c - b'0')),
+        b'A'..=b'F' => Some(usize::from(c - b'A') + 10),
+        _ => None,
+    }
+}
+
 // The number that a character stands for there, or nothing where it can't stand.
 pub(crate) fn value(place: usize, c: u8) -> Option<usize>
     ensures { result ≡ value_in (get_or line_places place []) c }
 {
-    place_of(row(place), c)
-}
-
-// The number of a hex digit, 0 to 9 and then A to F.
-pub fn hex_value(c: u8) -> Option<usize>
-    ensures { result ≡ value_in hex_digits c }
-{
-    value(2, c)
+    let row = row(place);
+    if row.len() == 16 {
+        hex_value(c)
+    } else {
+        place_of(row, c)
+    }
 }
