@@ -46,9 +46,9 @@ pub fn put_eight(x: u64, out: &mut [u8]) -> Result<usize, Refusal>
     put_bytes(&u64::to_be_bytes(x), out)
 }
 
-// A number that fits in `width` bytes, of which there are at most eight: stored from the low byte up to the front.
+// A number that fits in `width` bytes: stored from the low byte up to the front.
 fn put_half(x: u64, width: usize, out: &mut [u8]) -> Result<usize, Refusal>
-    requires { (x < 256 ^ width) × (width ≤ 8) }
+    requires { x < 256 ^ width }
     ensures { Wrote (accepted (to_bytes width x)) out.old result out.new }
 {
     let room = out.len();

@@ -13,7 +13,7 @@ returns-then-room-width c = refuses _ (length_to_bytes _ _) (search rules)
 pub put_half-requires-2 : goal.put_half-requires-2
 put_half-requires-2 c =
     let a = c.args in
-    (high_fits a.width a.x.high a.x.low c.requires.0 (search rules), search rules)
+    high_fits a.width a.x.high a.x.low c.requires.0 (search rules)
 
 pub returns-then-width-le8 : goal.returns-then-width-le8
 returns-then-width-le8 c =
