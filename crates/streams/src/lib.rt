@@ -2,14 +2,15 @@
 // the file that a path of bytes names, and each file that the arguments name.
 #![tactic(auto)]
 
-ghost use Rattle.std.specs.Prelude.{◌≡◌, ◌<◌, ◌≤◌, take, length, IfOk, IfSome, IsErr, IsNone, MatchOption, OnOk, IsUtf8};
+ghost use Rattle.std.specs.Prelude.{◌≡◌, ℕ, List, ◌++◌, ◌<◌, ◌≤◌, take, length, IfOk, IfSome, IsErr, IsNone, MatchOption, OnOk, IsUtf8};
 ghost use Rattle.std.specs.Io.{ReadsAtMost};
-ghost use Rattle.std.specs.Io.KnownBytes.{Consumes, IsAtEnd};
+ghost use Rattle.std.specs.Io.KnownBytes.{Consumes, IsAtEnd, Appends};
 ghost use Rattle.streams.specs.Told.{Tells};
+ghost use Rattle.streams.specs.Cases.{Shows, One, Each};
 
 use std::alloc::Global;
 use std::env::FillError;
-use std::fs::{self, File};
+use std::fs;
 use std::io::{self, Read, Write};
 use std::rt::{Env, Files};
 use std::str::from_utf8;
@@ -103,24 +104,59 @@ pub fn open_or_fail<R: Files + AllocGlobal, W: Write>(
     }
 }
 
+// Prints a text behind a path and words.
+pub fn print_line<W: Write>(out: &mut W, path: &[u8], words: &[u8], text: &[u8]) -> io::Result<()>
+    ensures { OnOk result (Appends (W.contents out.old) (W.contents out.new) (path.now ++ (words.now ++ text.now))) }
+{
+    out.write_all(path)?;
+    out.write_all(words)?;
+    out.write_all(text)
+}
+
 // What a program prints of a file that its arguments name.
 pub trait Case {
-    fn print(&self, rt: &HostRuntime, path: &[u8], file: &mut File) -> io::Result<()>;
+    // What it prints of a file of this name, after the bytes that it reads of it.
+    ghost prints: { Self → List ℕ → List ℕ → List ℕ → Type 0 };
 
-    // Opens the file that argument `i` names and prints it; where it can't be opened, standard error is told why.
-    final fn print_argument(&self, rt: &HostRuntime, i: usize) -> io::Result<()> {
+    // Prints what is read of a file of this name.
+    fn print<R: Read, W: Write>(
+        &self,
+        rt: &HostRuntime,
+        path: &[u8],
+        file: &mut R,
+        out: &mut W,
+    ) -> io::Result<()>
+        ensures { OnOk result (Shows (prints self.now) path.now (R.remaining file.old) (R.remaining file.new) (W.contents out.old) (W.contents out.new)) };
+
+    // Opens the file that argument `i` names and prints it; where it can't be opened, `error` is told why.
+    final fn print_argument<W: Write, E: Write>(
+        &self,
+        rt: &HostRuntime,
+        i: usize,
+        out: &mut W,
+        error: &mut E,
+    ) -> io::Result<()>
+        ensures { OnOk result (One (prints self.now) (W.contents out.old) (W.contents out.new) (E.contents error.old) (E.contents error.new)) }
+    {
         let mut path = [0u8; 4096];
         let n = argument(rt, i, &mut path);
-        match open_or_fail(rt, &mut rt.stderr(), &path[..n])? {
-            Some(mut file) => self.print(rt, &path[..n], &mut file),
+        match open_or_fail(rt, error, &path[..n])? {
+            Some(mut file) => self.print(rt, &path[..n], &mut file, out),
             None => Ok(()),
         }
     }
 
     // Each file that the arguments name, one after the other.
-    final fn print_each(&self, rt: &HostRuntime) -> io::Result<()> {
+    final fn print_each<W: Write, E: Write>(
+        &self,
+        rt: &HostRuntime,
+        out: &mut W,
+        error: &mut E,
+    ) -> io::Result<()>
+        ensures { OnOk result (Each (prints self.now) (W.contents out.old) (E.contents error.old) (W.contents out.new) (E.contents error.new)) }
+    {
         for i in 1..argument_count(rt, usize::MAX) {
-            self.print_argument(rt, i)?;
+            self.print_argument(rt, i, out, error)?;
         }
         Ok(())
     }
