@@ -51,19 +51,17 @@ fn put_half(x: u64, width: usize, out: &mut [u8]) -> Result<usize, Refusal>
     requires { x < 256 ^ width }
     ensures { Wrote (accepted (to_bytes width x)) out.old result out.new }
 {
+    let needed = width;
     let room = out.len();
-    if room < width {
-        return Err(Refusal::NoRoom {
-            needed: width,
-            room,
-        });
+    if room < needed {
+        return Err(Refusal::NoRoom { needed, room });
     }
     let mut rest = x;
     for i in (0..width).rev() {
         out[i] = (rest % 256) as u8;
         rest /= 256;
     }
-    Ok(width)
+    Ok(needed)
 }
 
 // A size that fits in `width` bytes: up to eight of them hold its low half, and those in front of eight its high half.

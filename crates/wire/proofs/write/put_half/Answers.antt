@@ -11,8 +11,8 @@ use Rattle.wire.proofs.FieldBytes.{fits-less, low_store}
 use Rattle.wire.proofs.Writes.{refuses, writes}
 use Rattle.wire.proofs.write.put_half.Goals as goal
 
-pub returns-then-room-width : goal.returns-then-room-width
-returns-then-room-width c = refuses _ (length_to_bytes _ _) (search rules)
+pub returns-then-room-needed : goal.returns-then-room-needed
+returns-then-room-needed c = refuses _ (length_to_bytes _ _) (search rules)
 
 pub loop-i-preserved : goal.loop-i-preserved
 loop-i-preserved c =
