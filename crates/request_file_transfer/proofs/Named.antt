@@ -4,6 +4,10 @@ use mathlib.Core.Path.{◌≡◌, refl, ap, ◌∙◌}
 use Prim.Native.Nat.{ℕ}
 use mathlib.Core.List.{List, []}
 use native.Mathlib.Omega.{arith}
+use Rattle.std.specs.Prelude.{Result, Ok, Err, IfOk}
+use Rattle.wire.specs.declared.refusal.Refusal.{Refusal}
+use Rattle.request_file_transfer.specs.declared.name_payload.NamePayload.{NamePayload}
+use denote.Ref.{Bor}
 use Rattle.paper.specs.Answer.{Answer, accepted, refused, Read, ◌leaving◌}
 use Rattle.paper.specs.Bytes.{Bytes}
 use Rattle.paper.specs.Utf8.{none}
@@ -12,9 +16,10 @@ use Rattle.paper.proofs.Request.{good-name, request-name}
 use Rattle.wire.specs.Place.{bytes_at}
 use Rattle.wire.proofs.UniqueHeld.{Says, says}
 use Rattle.file_operation.specs.Part.{or_empty, or_none}
-use Rattle.request_file_transfer.specs.Name.{place_in}
+use Rattle.request_file_transfer.specs.Name.{place_in, HoldsGood}
 use Rattle.request_file_transfer.specs.contracts.name_payload.NamePayload.of_request as of-request
 use Rattle.request_file_transfer.specs.contracts.name_payload.NamePayload.new as new
+use Rattle.request_file_transfer.specs.contracts.name_payload.NamePayloadTryFromRefSliceU8.try_from as try-from
 
 -- no bytes are a name
 empty_name : IsName []
@@ -28,6 +33,14 @@ kept-is-name n (refused r) e = empty_name
 
 pub new_named : Says new.ended (λ M 𝓤 𝓛. new.clauses 𝓛) (λ κs a r. IsName r.file_path_and_name.now)
 new_named M 𝓤 𝓛 mem run κs a g x r = says 𝓤 (λ is. rw is.1 (kept-is-name a.0.now (good_name a.0.now) refl))
+
+-- what a conversion hands on
+held-is-name : (name : Bor (List ℕ)) (r : Result NamePayload Refusal) → HoldsGood name r → IfOk r (λ (x : NamePayload). IsName x.file_path_and_name.now)
+held-is-name name (Ok x) h = rw (ap (λ (b : Bor (List ℕ)). b.now) h.0) ((good-name name.now name.now).0 h.1).1
+held-is-name name (Err e) h = tt
+
+pub try_from_named : Says try-from.ended (λ M 𝓤 𝓛. try-from.clauses 𝓛) (λ κs a r. IfOk r (λ (x : NamePayload). IsName x.file_path_and_name.now))
+try_from_named M 𝓤 𝓛 mem run κs a g x r = says 𝓤 (λ is. held-is-name a.0 r is)
 
 -- ---- of a request, whose elements are bytes, as those of every slice of `u8` are
 -- what stands in it where the answer says

@@ -6,6 +6,10 @@ use mathlib.Core.List.{List, ◌∷◌, ◌++◌, append_assoc}
 use native.Mathlib.Omega.{arith}
 use lib.ListN.{length, take, drop}
 use lib.Seq.{take_at}
+use Rattle.std.specs.Prelude.{Result, Ok, Err, IfOk}
+use Rattle.wire.specs.declared.refusal.Refusal.{Refusal}
+use Rattle.request_file_transfer_response.specs.declared.sent_data.SentDataPayload.{SentDataPayload}
+use denote.Ref.{Bor}
 use Rattle.paper.specs.Answer.{Answer, accepted, refused, Read, ◌leaving◌}
 use Rattle.paper.specs.Bytes.{Bytes, to_bytes}
 use Rattle.paper.specs.Field.{with_count}
@@ -15,9 +19,10 @@ use Rattle.wire.specs.Place.{bytes_at}
 use Rattle.wire.proofs.UniqueHeld.{Says, says}
 use Rattle.file_operation.specs.Part.{or_empty, or_none}
 use Rattle.request_file_transfer_response.specs.Reading.{block_start}
-use Rattle.request_file_transfer_response.specs.BlockLength.{place_in}
+use Rattle.request_file_transfer_response.specs.BlockLength.{place_in, HoldsGood}
 use Rattle.request_file_transfer_response.specs.contracts.sent_data.SentDataPayload.of_response as of-response
 use Rattle.request_file_transfer_response.specs.contracts.sent_data.SentDataPayload.new as new
+use Rattle.request_file_transfer_response.specs.contracts.sent_data.SentDataPayloadTryFromRefSliceU8.try_from as try-from
 
 -- ---- of a slice
 -- what the check of a block length hands on, or nothing
@@ -27,6 +32,14 @@ kept-is-short b (refused r) e = omega arith
 
 pub new_short : Says new.ended (λ M 𝓤 𝓛. new.clauses 𝓛) (λ κs a r. length r.max_number_of_block_length.now ≤ 255)
 new_short M 𝓤 𝓛 mem run κs a g x r = says 𝓤 (λ is. rw is.1 (kept-is-short a.0.now (good_block_length a.0.now) refl))
+
+-- what a conversion hands on
+held-is-short : (block : Bor (List ℕ)) (r : Result SentDataPayload Refusal) → HoldsGood block r → IfOk r (λ (x : SentDataPayload). length x.max_number_of_block_length.now ≤ 255)
+held-is-short block (Ok x) h = rw (ap (λ (b : Bor (List ℕ)). b.now) h.0) ((good-block-length block.now block.now).0 h.1).1
+held-is-short block (Err e) h = tt
+
+pub try_from_short : Says try-from.ended (λ M 𝓤 𝓛. try-from.clauses 𝓛) (λ κs a r. IfOk r (λ (x : SentDataPayload). length x.max_number_of_block_length.now ≤ 255))
+try_from_short M 𝓤 𝓛 mem run κs a g x r = says 𝓤 (λ is. held-is-short a.0 r is)
 
 -- ---- of a response, whose elements are bytes, as those of every slice of `u8` are
 -- what stands in it where the answer says
