@@ -1,15 +1,15 @@
 -- The rows of characters of a line, and which place of a line a place of a text is. Assumes nothing.
-use mathlib.Core.Path.{◌≡◌, refl, sym, ◌∙◌}
+use mathlib.Core.Path.{◌≡◌, refl, sym, ap, ◌∙◌}
 use Prim.Native.Nat.{ℕ, zero, suc, ◌+◌, ◌≤◌, ◌<◌}
 use mathlib.Core.Bool.{Bool, true, false, not}
 use mathlib.Core.List.{List, [], ◌∷◌}
 use native.Mathlib.Omega.{arith}
 use lib.ListN.{length, get_or, get_or-eq_default}
 use lib.Dec.{eqb, ltb}
-use borrow.Author.Tests.{ltb-true}
+use borrow.Author.Tests.{lt-ltb}
 use Rattle.std.specs.Prelude.{Option, Some, None, position}
 use Rattle.std.specs.List.{position_or_len}
-use Rattle.std.specs.Option.{is_some}
+use Rattle.std.specs.Option.{is_some, unwrap_or}
 use Rattle.paper.specs.Choice.{pick}
 use Rattle.paper.specs.Listing.{first_place}
 use Rattle.paper.specs.CodeText.{hex_digits, code_places, line_places, one_code, can_stand, place_in}
@@ -30,13 +30,9 @@ place-found (x ∷ row) c = by (eqb c x) (place-found row c)
 pub found_value : (row : List ℕ) (c : ℕ) → position (λ x. eqb c x) row ≡ value_in row c
 found_value row c = rw (place-found row c) refl
 
--- a number that a character has is one of the row
-pub number_there : (row : List ℕ) (c : ℕ) {o : Option ℕ} {x : ℕ} → o ≡ value_in row c → o ≡ Some x → x < length row
-number_there row c {x = x} is found = by (ltb (place_in row c) (length row)) refl (sym is ∙ found)
-  where
-    by : (t : Bool) → ltb (place_in row c) (length row) ≡ t → pick t (Some (place_in row c)) None ≡ Some x → x < length row
-    by true e q = let same : place_in row c ≡ x = cc in rw (← same) (ltb-true _ _ e)
-    by false e q = cc
+-- what is read of a character that stands there
+pub number_there : (row : List ℕ) (c : ℕ) {o : Option ℕ} {x : ℕ} → o ≡ value_in row c → x ≡ unwrap_or o 0 → place_in row c < length row → x ≡ place_in row c
+number_there row c is e h = e ∙ ap (λ (o : Option ℕ). unwrap_or o 0) is ∙ rw (lt-ltb _ _ h) refl
 
 -- whether it stands there
 pub none-in : (row : List ℕ) (c : ℕ) {b : Bool} → is_some (value_in row c) ≡ not b → (b ≡ true → ltb (place_in row c) (length row) ≡ false) × (b ≡ false → ltb (place_in row c) (length row) ≡ true)

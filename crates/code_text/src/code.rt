@@ -38,14 +38,14 @@ pub fn put_code_text(code: DtcRecord, out: &mut [u8]) -> Result<usize, Refusal>
     put_bytes(&characters(code), out)
 }
 
-// The number that character j of the line at `at` stands for.
+// The number that character j of the line at `at` stands for: it stands there, so that the 0 is never taken, and no branch of its own.
 pub(crate) fn digit(text: &[u8], at: usize, j: usize) -> u8
     requires { LineStands (j + 1) at text.now }
     ensures value { result ≡ digit (drop at text.now) j }
     ensures few { result < 16 }
     ensures fewer { j < 2 → result < 4 }
 {
-    value(j, text[at + j]).unwrap() as u8
+    value(j, text[at + j]).unwrap_or(0) as u8
 }
 
 // The code whose eight characters stand there.
