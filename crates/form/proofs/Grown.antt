@@ -64,12 +64,12 @@ all-put bytes i h e = rw (drop_of_length-le bytes h) at e
 -- ---- a form
 module _ (form : List ℕ) (i : ℕ) {n : ℕ} {held : List ℕ} {goal : Text} (h : i < length form) where
   -- a blank, filled in with the first of the numbers
-  pub number_more : {x r : ℕ} {numbers others new : List ℕ} → get_or form i 0 ≡ 95 → numbers ≡ x ∷ others → grown (filled_in (drop i form) numbers) (text n held) ≡ goal
-      → Grew (decimal x) 20 n held r new → grown (filled_in (drop (i + 1) form) others) (text r new) ≡ goal
+  pub number_more : {x r : ℕ} {numbers others left new : List ℕ} → get_or form i 0 ≡ 95 → numbers ≡ x ∷ others → grown (filled_in (drop i form) numbers) (text n held) ≡ goal
+      → Grew (decimal x) 20 n held r new → left ≡ others → grown (filled_in (drop (i + 1) form) left) (text r new) ≡ goal
   unfolding filled_in
-  number_more {x} {others = others} is some e g =
+  number_more {x} {others = others} is some e g after =
       let f = rw (drop-cons form i 0 h, is, some, grown-more (decimal x) (filled_in (drop (suc i) form) others) (text n held)) at e in
-      rw (add-one i, g.right) f
+      rw (after, add-one i, g.right) f
 
   -- any other letter
   pub sign_more : (numbers : List ℕ) {new : List ℕ} {m r : ℕ} → (get_or form i 0 ≡ 95 → ⊥) → grown (filled_in (drop i form) numbers) (text n held) ≡ goal

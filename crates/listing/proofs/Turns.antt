@@ -14,16 +14,21 @@ use lib.Pointwise.{pointwise}
 use Rattle.paper.specs.Choice.{both}
 use Rattle.paper.specs.Answer.{accepted}
 use Rattle.paper.specs.TroubleCode.{TroubleCode}
-use Rattle.paper.specs.Listing.{SubFunction, Listed, one_by_one, records_in, how_many, first_with, Index, index_of, same_numbers, own_index, has_code, find}
+use Rattle.paper.specs.Listing.{SubFunction, Listed, one_by_one, records_in, how_many, first_with, Index, index_of, own_index, has_code, find}
 use Rattle.paper.proofs.Listing.{length_records, record_there, records-more}
-use Rattle.paper.proofs.ListingIndex.{no_counts, no_firsts, counted-more, new_first, old_first, count_small, count_at, first_at, Searching, search_starts, search_within, search_found, search_less, search_on}
+use Rattle.paper.proofs.ListingIndex.{own_accepted, own_only, no_counts, no_firsts, counted-more, new_first, old_first, count_small, count_at, first_at, Searching, search_starts, search_within, search_found, search_less, search_on}
 use Rattle.dtc.specs.Status.{same_code}
 use Rattle.listing.specs.Listing.{records_of, record_here}
 use Rattle.std.specs.Prelude.{Option, Some, None}
 use Rattle.std.specs.Option.{ok_or}
+use Rattle.std.specs.Bool.{Decides}
+use Rattle.std.proofs.lemmas.Bool.Decides.{Decides-eqb}
+use Rattle.std.proofs.lemmas.Slice.Eq.{slice_eq-Decides}
 use Rattle.wire.specs.declared.refusal.Refusal.{Refusal}
 use Rattle.listing.specs.declared.Listed as listing
-use Rattle.listing.specs.Index.{numbers_in, found_said, look_said}
+use Rattle.listing.specs.Index.{index_said, numbers_in, found_said, look_said}
+use Rattle.listing.specs.Searchable.{searched}
+use Rattle.listing.specs.declared.searchable.Searchable.{Searchable}
 
 -- ---- the index
 -- before the first record: all zeros
@@ -65,25 +70,17 @@ pub all-counted : (f : SubFunction) (s : List ℕ) {cs fs : List ℕ} {k n : ℕ
 all-counted f s {k = k} {n} l g p q = let same : n ≡ k = omega arith in rw same (ap₂ numbers_in p q)
 
 -- ---- the own index
--- two lists of numbers are compared as `==` does it
-same-pointwise : (xs ys : List ℕ) → pointwise eqb xs ys ≡ same_numbers xs ys
-unfolding same_numbers
-same-pointwise [] [] = refl
-same-pointwise [] (y ∷ ys) = refl
-same-pointwise (x ∷ xs) [] = refl
-same-pointwise (x ∷ xs) (y ∷ ys) = by (eqb x y) (same-pointwise xs ys)
-  where
-    by : (t : Bool) → pointwise eqb xs ys ≡ same_numbers xs ys → t && pointwise eqb xs ys ≡ both t (same_numbers xs ys)
-    by true e = e
-    by false e = refl
+-- what `==` tells of two lists of numbers
+pub same_lists : (xs ys : List ℕ) → Decides (pointwise eqb xs ys) (xs ≡ ys)
+same_lists xs ys = slice_eq-Decides Decides-eqb xs ys _ refl
 
--- x is the index of the records: its counts are compared, and then its first places
-module _ (rs : List Listed) (x : Index) (made : x ≡ index_of rs) (cs fs : List ℕ) {xc : List ℕ} {same : Bool} (is : same ≡ pointwise eqb cs xc) (counts : xc ≡ x.counts) where
-  pub owns_not : same ≡ false → same ≡ own_index rs (numbers_in cs fs)
-  owns_not e = e ∙ rw (← made, ← counts, ← same-pointwise cs xc, ← is, e) refl
+-- it is accepted, and no other index is
+pub own_decided : (rs : List Listed) (cs fs : List ℕ) → Decides (own_index rs (numbers_in cs fs)) (numbers_in cs fs ≡ index_of rs)
+own_decided rs cs fs = (own_only rs _, λ e. ap (own_index rs) e ∙ own_accepted rs)
 
-  pub owns_firsts : {xf : List ℕ} {rest : Bool} → same ≡ true → rest ≡ pointwise eqb fs xf → xf ≡ x.firsts → rest ≡ own_index rs (numbers_in cs fs)
-  owns_firsts {xf} e told firsts = told ∙ rw (← made, ← counts, ← same-pointwise cs xc, ← is, e, ← firsts, same-pointwise fs xf) refl
+-- the numbers that are accepted are those of the index that is searched by
+pub own_numbers : (x : Searchable) (cs fs : List ℕ) → own_index (searched x) (numbers_in cs fs) ≡ true → numbers_in cs fs ≡ index_said x.index
+own_numbers x cs fs e = (own_decided (searched x) cs fs).0 e ∙ sym x.own
 
 module _ (rs : List Listed) (cs fs : List ℕ) (own : numbers_in cs fs ≡ index_of rs) where
   pub own_count : {h high : ℕ} → h < 256 → h ≡ high → get_or cs h 0 ≡ how_many rs high

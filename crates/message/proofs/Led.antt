@@ -11,12 +11,12 @@ use lib.Dec.{leb}
 use lib.ListN.{length, take, drop, length-append, length-drop}
 use lib.Seq.{take_all, drop-length}
 use Rattle.paper.specs.Choice.{pick}
-use Rattle.paper.specs.Answer.{Refusal, wrong_format, no_room, Answer, accepted, refused, check, ◌then◌, over, Written, written}
+use Rattle.paper.specs.Answer.{wrong_format, no_room, Answer, accepted, refused, check, ◌then◌, over, Written, written}
 use Rattle.paper.specs.Utf8.{is_utf8, valid_up_to}
 use Rattle.paper.specs.Request.{Request, request_at, request_bytes, good_name, write_request}
 use Rattle.paper.specs.Response.{Response, response_at, response_bytes, as_read, good_block_length, write_response}
 use Rattle.paper.specs.RoutineControl.{RoutineRequest, RoutineResponse, byte_of, routine_laid, control_byte, routine_request_bytes, routine_response_bytes, write_routine_request, write_routine_response}
-use Rattle.paper.specs.WholeMessage.{Sort, service_byte, Service, known_service, led, write_negative}
+use Rattle.paper.specs.WholeMessage.{Sort, service_byte, led}
 use Rattle.paper.proofs.Bytes.{length_to_bytes}
 use Rattle.paper.proofs.Choice.{check_passed, then_passed}
 use Rattle.paper.proofs.Request as request
@@ -180,14 +180,3 @@ routine-request-leads m = routine_leads (control_byte m.suppress m.sub_function)
 pub routine-response-leads : (m : RoutineResponse) → Leads (write_routine_response m)
 unfolding write_routine_response routine_response_bytes
 routine-response-leads m = routine_leads (byte_of m.sub_function) m.identifier m.«record»
-
--- ---- negative answers
--- a service that we don't have is the refusal
-pub negative-refused : (b c : ℕ) {r : Refusal} → refused r ≡ known_service b → write_negative b c ≡ refused r
-unfolding write_negative
-negative-refused b c e = rw (← e)
-
--- else the message is three bytes
-pub negative-bytes : (b c : ℕ) {k : Service} → accepted k ≡ known_service b → write_negative b c ≡ accepted (0x7F ∷ b ∷ c ∷ [])
-unfolding write_negative
-negative-bytes b c e = rw (← e)

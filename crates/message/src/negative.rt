@@ -31,6 +31,7 @@ pub fn is_listed(service: Service, code: u8) -> bool
 
 // A service that we don't have is 11, too little room refusal 7; refused, nothing changes.
 // The service is a byte, and no `Service`: C hands one over, and 11 is this call's own promise.
+#[tactic(auto, unfolding(paper::specs::WholeMessage::write_negative))]
 pub fn write_negative(service: u8, code: u8, out: &mut [u8]) -> Result<usize, Refusal>
     ensures { Wrote (write_negative service code) out.old result out.new }
 {

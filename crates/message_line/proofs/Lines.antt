@@ -50,16 +50,18 @@ pub bit : (b : Bool) → from_bool b ≡ pick b 1 0
 bit true = refl
 bit false = refl
 
--- the two forms of a request's line, and those of a response's
-pub request-filled : (o : Option ℕ) (k n m l : ℕ)
-    → filled_by (ascii "request kind _ name _ format _ normal _ left _\n") (ascii "request kind _ name _ format - normal _ left _\n") k n m l o ≡ request_text (shown_of o) k n m l
-request-filled (Some f) k n m l = refl
-request-filled None k n m l = refl
+-- what is put by the two forms of a request's line is the line, and so is a response's
+pub request_put : (format : Option ℕ) (kind name normal left : ℕ) (old : List ℕ) (r : ℕ) (new : List ℕ)
+    → Grew (filled_by (ascii "request kind _ name _ format _ normal _ left _\n") (ascii "request kind _ name _ format - normal _ left _\n") kind name normal left format) 200 0 old r new
+    → Grew (request_text (shown_of format) kind name normal left) 200 0 old r new
+request_put (Some f) kind name normal left old r new put = put
+request_put None kind name normal left old r new put = put
 
-pub response-filled : (o : Option ℕ) (k n m l : ℕ)
-    → filled_by (ascii "response kind _ block _ format _ normal _ left _\n") (ascii "response kind _ block _ format - normal _ left _\n") k n m l o ≡ response_text (shown_of o) k n m l
-response-filled (Some f) k n m l = refl
-response-filled None k n m l = refl
+pub response_put : (format : Option ℕ) (kind block normal left : ℕ) (old : List ℕ) (r : ℕ) (new : List ℕ)
+    → Grew (filled_by (ascii "response kind _ block _ format _ normal _ left _\n") (ascii "response kind _ block _ format - normal _ left _\n") kind block normal left format) 200 0 old r new
+    → Grew (response_text (shown_of format) kind block normal left) 200 0 old r new
+response_put (Some f) kind block normal left old r new put = put
+response_put None kind block normal left old r new put = put
 
 pub too_long_lem : (s : List ℕ) → 4096 < length s → text_of too_long ≡ message_line s
 unfolding message_line

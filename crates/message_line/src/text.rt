@@ -49,6 +49,7 @@ fn put_transfer(with_byte: &[u8], with_dash: &[u8], line: Transfer, out: &mut [u
     }
 }
 
+#[tactic(auto, using(crate::proofs::Lines::request_put))]
 fn file_request(input: &[u8], q: RequestFileTransferRequest, tail: usize, out: &mut [u8]) -> usize
     requires { tail ≤ length input.now }
     ensures { Grew (request_line input.now q tail) 200 0 out.old result out.new }
@@ -68,6 +69,7 @@ fn file_request(input: &[u8], q: RequestFileTransferRequest, tail: usize, out: &
     )
 }
 
+#[tactic(auto, using(crate::proofs::Lines::response_put))]
 fn file_response(input: &[u8], q: RequestFileTransferResponse, tail: usize, out: &mut [u8]) -> usize
     requires { tail ≤ length input.now }
     ensures { Grew (response_line input.now q tail) 200 0 out.old result out.new }

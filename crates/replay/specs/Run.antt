@@ -1,11 +1,15 @@
 -- How far the run of a log has come.
-use Rattle.std.specs.Prelude.{◌≡◌, ℕ, ◌+◌, ◌*◌, ◌^◌, ◌<◌, ◌≤◌, List, length, map}
+use Rattle.std.specs.Prelude.{◌≡◌, ℕ, ◌+◌, ◌-◌, ◌*◌, ◌^◌, ◌<◌, ◌≤◌, List, length, drop, map}
 use Rattle.paper.specs.Replay.{LogRecord, record_of, run_from}
 use Rattle.replay.specs.Replay.{state_of}
 use Rattle.replay.specs.declared.State.{State}
 
 abbrev pub records : List (List ℕ) → List LogRecord
 records = map record_of
+
+-- what is left of a log is its end
+abbrev pub IsEnd : (left rows : List (List ℕ)) → Type 0
+IsEnd left rows = left ≡ drop (length rows - length left) rows
 
 -- 64 bits hold what n more records may count
 pub record HoldsMore (st : State) (n : ℕ) : Type 0 where

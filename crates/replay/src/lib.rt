@@ -4,7 +4,7 @@
 ghost use Rattle.std.specs.Prelude.{◌≡◌, ℕ, ◌+◌, ◌*◌, ◌^◌, ◌<◌, ◌≤◌, length};
 ghost use Rattle.paper.specs.Replay.{start, opens, next_counter, is_repeat, opening, block, closing, block_in, stepped, stepped_once, run_from, replayed, within64};
 ghost use Rattle.replay.specs.Replay.{last_of, state_of, meant, step_said, ended_said, with_more, served};
-ghost use Rattle.replay.specs.Run.{records, HoldsMore, Passes};
+ghost use Rattle.replay.specs.Run.{records, IsEnd, HoldsMore, Passes};
 
 use wire::refusal::Refusal;
 
@@ -178,7 +178,8 @@ fn step_once(state: State, record: LogRecord, place: usize) -> Result<State, Sto
 // first record that is none, or whose counter is neither that of the last nor the next, and leaves it to `step`.
 fn blocks_from(state: State, log: &[[u8; 4]]) -> (State, &[[u8; 4]])
     requires { HoldsMore state (length log.now) }
-    ensures { (k : ℕ) → (at : ℕ) × Passes k state log.now at result.0 result.1.now }
+    ensures end { IsEnd result.1.now log.now }
+    ensures led { (k : ℕ) → (at : ℕ) × Passes k state log.now at result.0 result.1.now }
 {
     let Transfer::Open(Some(first)) = state.transfer else {
         return (state, log);

@@ -70,6 +70,7 @@ impl TryFrom<u8> for SuppressablePositiveResponse {
 
     ghost try_from_gives = { λ b r. suppress_said r ≡ suppressable b };
 
+    #[tactic(auto, unfolding(crate::specs::SubFunction::suppressable, paper::specs::RoutineControl::known_sub, paper::specs::Kind::one_of))]
     fn try_from(b: u8) -> Result<SuppressablePositiveResponse, Refusal> {
         let value = RoutineControlSubFunction::try_from(b % 128)?;
         Ok(SuppressablePositiveResponse {

@@ -1,7 +1,7 @@
 -- The rows of a table one after the other are its cells, ten to a row; and a table with a count was not refused.
 -- Assumes nothing.
 use mathlib.Core.Path.{◌≡◌, refl, sym, ap, ◌∙◌}
-use Prim.Native.Nat.{ℕ, ◌+◌, ◌*◌, ◌-◌, ◌/◌, ◌%◌, ◌<◌}
+use Prim.Native.Nat.{ℕ, zero, suc, ◌+◌, ◌*◌, ◌-◌, ◌/◌, ◌%◌, ◌<◌}
 use mathlib.Core.Bool.{Bool, true, false, true≢false}
 use mathlib.Core.List.{List, [], ◌∷◌, ◌++◌}
 use native.Mathlib.Numerals.{add-one}
@@ -10,7 +10,10 @@ use lib.ListN.{length, get_or, length-append, get_or-append}
 use lib.Seq.{get_or-append-add}
 use lib.Dec.{leb}
 use borrow.Author.Tests.{leb-true, leb-false}
+use denote.Param.Members.{Mut, Called}
+use Rattle.std.specs.Array.{IsFromFnResultFrom, IsFromFnResult}
 use Rattle.std.specs.List.{flat_map}
+use Rattle.std.proofs.lemmas.List.{ext_get_or}
 use Rattle.paper.specs.Answer.{Answer, accepted, refused}
 use Rattle.paper.specs.Tally.{Entry, table, tallied, table_of, verdict}
 use Rattle.paper.proofs.Tally.{accepted-has}
@@ -21,6 +24,19 @@ pub rows_joined : (t : List (List ℕ)) → flat_map (λ (r : List ℕ). r) t �
 unfolding cells_of
 rows_joined [] = refl
 rows_joined (r ∷ t) = ap (λ (cells : List ℕ). r ++ cells) (rows_joined t)
+
+-- ---- an array made of calls, one for each place
+-- each call leaves what is called as it was, and gives what stands in xs at its place: the array is xs
+module _ {F : Type 0} (g : Mut F (ℕ × Unit {0}) ℕ) (f : F) (xs : List ℕ) (gives : (i y : ℕ) (after : F) → Called g f (i, tt) y after → (y ≡ get_or xs i 0) × (after ≡ f)) where
+  made_at : (ys : List ℕ) (now : F) (i n k place : ℕ) → now ≡ f → place ≡ i + k → k < n → IsFromFnResultFrom g now ys i n → get_or ys place 0 ≡ get_or xs place 0
+  made_at ys now i zero k place e p h made = absurd (omega arith)
+  made_at ys now i (suc n) zero place e p h (after, y, is, call, rest) =
+      let here : place ≡ i = omega arith in
+      rw here (is.1 0 ∙ (gives i y after (rw e at call)).0)
+  made_at ys now i (suc n) (suc k) place e p h (after, y, is, call, rest) = made_at ys after (i + 1) n k place (gives i y after (rw e at call)).1 (omega arith) (omega arith) rest
+
+  pub made_of_calls : (ys : List ℕ) (n : ℕ) → length xs ≡ n → IsFromFnResult g f ys n → ys ≡ xs
+  made_of_calls ys n long made = ext_get_or 0 ys xs (made.long ∙ sym long) (λ i h. made_at ys f 0 n i i refl (omega arith) (omega (arith, made.long)) made.each)
 
 -- ---- where a cell lies
 pub length_cells : (t : List (List ℕ)) → RowsOfTen t → length (cells_of t) ≡ 10 * length t

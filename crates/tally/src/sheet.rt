@@ -18,9 +18,8 @@ pub struct Sheet {
 fn cells_of(table: [[u32; 10]; 12]) -> [u32; 120]
     ensures { result ≡ cells_of table }
 {
-    let mut cells = [0; 120];
-    cells.copy_from_slice(table.as_flattened());
-    cells
+    let cells = table.as_flattened();
+    std::array::from_fn(|i| cells[i])
 }
 
 pub fn sheet_of(records: &[u8]) -> Sheet

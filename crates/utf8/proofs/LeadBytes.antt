@@ -5,15 +5,18 @@ use mathlib.Core.Bool.{Bool, true, false}
 use mathlib.Core.Logic.{◌⊎◌, inl, inr, ⊎_elim}
 use mathlib.Core.List.{List, [], ◌∷◌, ◌++◌}
 use native.Mathlib.Omega.{arith}
+use denote.Enum.Bare.{sameb, same_true, true_same}
 use native.Mathlib.Nat.{add-zero, add-suc, suc-add}
 use borrow.Author.Tests.{eqb-true}
 use lib.Dec.{eqb}
 use lib.ListN.{length, get_or, drop, length-drop}
+use Rattle.std.specs.Bool.{Decides}
 use Rattle.paper.specs.Choice.{pick, both}
 use Rattle.paper.specs.LeadBytes.{Class, no_lead, ascii, two_bytes, lead_e0, three_bytes, lead_ed, lead_f0, four_bytes, lead_f4, class_of, size_of, following, length_by}
 use Rattle.paper.specs.Utf8.{in_range, begins, char_length}
 use Rattle.paper.proofs.LeadBytes.{lead_class}
 use Rattle.utf8.specs.Character.{Lead}
+use Rattle.utf8.specs.contracts.lead_bytes.Class.{the_type}
 use Rattle.utf8.specs.declared.lead_bytes.Class as ours
 use Rattle.utf8.specs.declared.lead_bytes.Class.TheVariants.{NoLead, Ascii, LeadE0, ThreeBytes, LeadEd, LeadF0, FourBytes, LeadF4, TwoBytes}
 use Rattle.utf8.specs.LeadBytes.{number, numbered, seen, entry, RowRight, Begins}
@@ -123,6 +126,10 @@ back_seen TwoBytes = refl
 pub seen_once : (x y : ours.Class) → seen x ≡ seen y → x ≡ y
 seen_once x y e = sym (back_seen x) ∙ ap back e ∙ back_seen y
 
+-- what `==` tells of two classes
+pub same_class : (x y : ours.Class) → Decides (sameb the_type x y) (seen x ≡ seen y)
+same_class x y = (λ e. ap seen (same_true the_type tt x y e), λ e. true_same the_type x y (seen_once x y e))
+
 -- ---- a text by its lead byte's class
 -- what is found for the lead byte's class is found for the text
 pub by_class : {k : Class} {n : ℕ} (b : ℕ) (t : List ℕ) → k ≡ class_of b → n ≡ length_by k t → n ≡ char_length (b ∷ t)
@@ -162,11 +169,11 @@ begins-append (r ∷ rs) [] u h = absurd (omega arith)
 begins-append (r ∷ rs) (b ∷ t) u h = ap (both (in_range r b)) (begins-append rs t u (omega arith))
 
 -- the code lends what is left of s as c, of the size of a character, and u
-pub one_more_lem : {k : Class} {s : List ℕ} (c u : List ℕ) {at m n : ℕ} → Valid s at → drop at s ≡ c ++ u → 0 < m → length c ≡ m → size_of k ≡ m → k ≡ class_of (get_or c 0 0)
-    → n ≡ length_by k (drop 1 c) → (n ≡ 0 → ⊥) → Valid s (at + m)
-one_more_lem {k} c u {m = m} {n} h p l e g b f z =
-    let size : n ≡ m = ⊎_elim (λ (y : length_by k (drop 1 c) ≡ 0). absurd (z (f ∙ y))) (λ y. f ∙ y ∙ g) (some_length k (drop 1 c)) in
-    let v = (character_step (first_character c record { some = omega arith; is = b } f)).valid in
+pub one_more_lem : {k : Class} {s : List ℕ} (c u : List ℕ) {at m : ℕ} → Valid s at → drop at s ≡ c ++ u → 0 < m → length c ≡ m → size_of k ≡ m → k ≡ class_of (get_or c 0 0)
+    → (length_by k (drop 1 c) ≡ 0 → ⊥) → Valid s (at + m)
+one_more_lem {k} c u {m = m} h p l e g b z =
+    let size : length_by k (drop 1 c) ≡ m = ⊎_elim (λ y. absurd (z y)) (λ y. y ∙ g) (some_length k (drop 1 c)) in
+    let v = (character_step (first_character c record { some = omega arith; is = b } refl)).valid in
     onward h (rw (p, ← size) (begun u v))
 
 -- the run ends: where it has not begun, a character of its class does not begin s

@@ -48,6 +48,7 @@ pub fn valid_up_to(name: &[u8]) -> usize
 }
 
 // Whether the whole name is UTF-8. An empty name is.
+#[tactic(auto, using(paper::proofs::Utf8::whole_is))]
 pub fn is_utf8(name: &[u8]) -> bool
     ensures { result ≡ is_utf8 name.now }
 {

@@ -54,7 +54,8 @@ high_first (suc w) n =
     top_byte zero n = let whole : n / 1 ≡ n = omega arith in rw whole
     top_byte (suc w) n = refl
 
-pub be_bytes : (w n : ℕ) → n < 256 ^ w → bytes_high_first w n ≡ to_bytes w n
+-- a number that fits has just those bytes
+pub be_bytes : (w n : ℕ) → n < 256 ^ w → to_bytes w n ≡ bytes_high_first w n
 be_bytes w n h = rw (high_first w n, mod-eq_of_lt h)
 
 -- a number in one byte is that byte

@@ -34,12 +34,14 @@ pub fn put_byte(x: u8, out: &mut [u8]) -> Result<usize, Refusal>
 }
 
 // High byte first, here and below. A function for each width: `to_be_bytes` is a method of each type of number, and of no trait of std.
+#[tactic(auto, using(crate::proofs::FieldBytes::be_bytes))]
 pub fn put_two(x: u16, out: &mut [u8]) -> Result<usize, Refusal>
     ensures { Wrote (accepted (to_bytes 2 x)) out.old result out.new }
 {
     put_bytes(&u16::to_be_bytes(x), out)
 }
 
+#[tactic(auto, using(crate::proofs::FieldBytes::be_bytes))]
 pub fn put_eight(x: u64, out: &mut [u8]) -> Result<usize, Refusal>
     ensures { Wrote (accepted (to_bytes 8 x)) out.old result out.new }
 {

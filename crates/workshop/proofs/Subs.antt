@@ -2,12 +2,15 @@
 -- Assumes nothing.
 use Prim.Native.Nat.{ℕ}
 use mathlib.Core.Path.{◌≡◌, refl, sym, ap}
+use mathlib.Core.Bool.{Bool, true, false}
 use mathlib.Core.List.{List}
+use lib.Dec.{eqb}
 use mathlib.Core.Option.{Option}
 use Rattle.std.specs.Prelude.{Result, Ok, Err}
-use Rattle.paper.specs.Answer.{Refusal, Answer, accepted, refused}
+use Rattle.paper.specs.Answer.{Refusal, Answer, accepted, refused, unknown_service}
+use Rattle.paper.specs.Choice.{pick}
 use Rattle.paper.specs.TroubleCode.{TroubleCode}
-use Rattle.paper.specs.Listing.{SubFunction, Listing, Listed, read_listing, Head, head_of, record_at, Index, index_in, look_up_in, look_up, write_handed}
+use Rattle.paper.specs.Listing.{SubFunction, by_status_mask, by_severity_mask, Listing, Listed, read_listing, Head, head_of, record_at, Index, index_in, look_up_in, look_up, write_handed}
 use Rattle.paper.specs.CodeText.{export_in, export_listing}
 use Rattle.paper.proofs.Choice.{never}
 use Rattle.wire.specs.Refusals.{row}
@@ -22,6 +25,15 @@ use Rattle.workshop.specs.Listings.{listing_sub, read_known, listing_handed, wri
 use Rattle.workshop.specs.declared.listings.IndexRecord.{IndexRecord}
 
 -- ---- the sub-function
+-- a byte that is none is refused as 15 at place 0
+pub unknown_is : (b : ℕ) {e : Refusal} → refused e ≡ listing_sub b → e ≡ unknown_service 0
+unknown_is b {e} h = by (eqb b 0x02) (eqb b 0x08) h
+  where
+    by : (x y : Bool) → refused e ≡ pick x (accepted by_status_mask) (pick y (accepted by_severity_mask) (refused (unknown_service 0))) → e ≡ unknown_service 0
+    by true y h = absurd (never h)
+    by false true h = absurd (never h)
+    by false false h = let same : e ≡ unknown_service 0 = cc in same
+
 module _ (b : ℕ) (s : List ℕ) where
   pub known : {f : SubFunction} → accepted f ≡ listing_sub b → listing_handed b s ≡ read_listing f s
   unfolding listing_handed

@@ -1,5 +1,7 @@
 -- `form::put_form` meets its contract: a letter, a number or nothing in a blank, and the end of the form.
+use Rattle.std.proofs.Common.{◌≡◌, ◌∷◌, length, ap}
 use native.Mathlib.Omega.{arith}
+use Rattle.std.proofs.lemmas.Grind.{common_steps}
 use Rattle.form.proofs.Grown.{number_more, nothing_more, sign_more, form-put}
 use Rattle.form.proofs.put_form.Goals as goal
 use Rattle.form.proofs.put_form.Goals.{then-letter-ne-BLANK, else-letter-ne-BLANK+in-Some, else-letter-ne-BLANK+in_default}
@@ -15,13 +17,15 @@ loop-letter-preserved c =
         bound = omega (arith, w.put_letter-end.ensures.bound);
         goes_on = sign_more form _ more _ w.if-letter-ne-BLANK.true so_far w.put_letter-end.ensures;
       })
-      | else-letter-ne-BLANK+in-Some w ↦ rw (w.out-is, w.end-is, w.left-is) (record {
-        bound = omega (arith, w.put_number-end.ensures.bound, w.in-Some.ensures.cases.1);
-        goes_on = number_more form _ more (omega (arith, w.if-letter-ne-BLANK.false)) w.in-Some.ensures.cases.0 so_far w.put_number-end.ensures;
-      })
+      | else-letter-ne-BLANK+in-Some w ↦
+          let first : l.left.now ≡ w.in-Some.n.now ∷ w.in-Some.others.now = grind (arith, common_steps) in
+          rw (w.out-is, w.end-is, w.left-is) (record {
+            bound = omega (arith, w.put_number-end.ensures.bound, ap length first);
+            goes_on = number_more form _ more (omega (arith, w.if-letter-ne-BLANK.false)) first so_far w.put_number-end.ensures (grind (arith, common_steps));
+          })
       | else-letter-ne-BLANK+in_default w ↦ rw (w.out-is, w.end-is, w.left-is) (record {
         bound = omega arith;
-        goes_on = nothing_more form _ _ _ more (omega (arith, w.if-letter-ne-BLANK.false)) w.in_default.ensures.cases so_far;
+        goes_on = nothing_more form _ _ _ more (omega (arith, w.if-letter-ne-BLANK.false)) (grind (arith, common_steps)) so_far;
       })
     ]
 

@@ -1,7 +1,0 @@
--- `wire::write::put_two` meets its contract: the bytes that `to_be_bytes` gives are the number's.
-use borrow.Author.Rules.{rules}
-use Rattle.wire.proofs.FieldBytes.{be_bytes}
-use Rattle.wire.proofs.write.put_two.Goals as goal
-
-pub returns : goal.returns
-returns c = rw (← be_bytes 2 c.args.x (search rules), ← c.to_be_bytes.ensures) c.put_bytes.ensures
