@@ -2,7 +2,7 @@
 use Rattle.std.specs.Prelude.{◌≡◌, Bool, ℕ, List, eqb, drop, Option, Some, None, Result, Ok, Err}
 use Rattle.paper.specs.Choice.{both}
 use Rattle.paper.specs.Answer.{Answer, accepted, refused, ◌leaving◌}
-use Rattle.paper.specs.TroubleCode.{TroubleCode, trouble_code, read_trouble_code, wire_size, Next, none, next, next_trouble_code, one_byte_field}
+use Rattle.paper.specs.TroubleCode.{TroubleCode, trouble_code, read_trouble_code, wire_size, Next, none, next, next_trouble_code, one_byte_field, mask_of}
 use Rattle.paper.specs.TroubleCode.{FunctionalGroup, group_of, emissions, safety, legislative, vobd, reserved_group}
 use Rattle.paper.specs.TroubleCode.{Format, format_of, sae_j2012_da_format00, iso14229_1, sae_j1939_73, iso11992_4, sae_j2012_da_format04, reserved_format}
 use Rattle.wire.specs.Refusals.{row}
@@ -62,6 +62,10 @@ OneByte A byte_of s at r = Right A ℕ byte_of one_byte_field (λ (a : A) (after
 
 abbrev pub MaskRight : {K : Type 0} → List ℕ → ℕ → Seen (Mask K) → Type 0
 MaskRight {K} s at r = OneByte (Mask K) (λ (m : Mask K). m.bits) s at r
+
+-- the mask by which a question is asked
+abbrev pub named : {K : Type 0} → (ℕ → Bool) → Mask K
+named question = record { bits = mask_of question; names = record {} }
 
 abbrev pub RecordNumberRight : List ℕ → ℕ → Seen DtcStoredDataRecordNumber → Type 0
 RecordNumberRight s at r = OneByte DtcStoredDataRecordNumber (λ (n : DtcStoredDataRecordNumber). n.0) s at r

@@ -1,17 +1,17 @@
 // Trouble-code fields: the code and its number, status and severity masks, the names of formats and groups, the stored-data record number.
 // A field is read at a place of the message, so that `at` stands beside it in each reader (docs/DIFFERENCES.md), and written at the start of the room that is lent for it.
-ghost use Rattle.std.specs.Prelude.{◌≡◌, ◌/◌, ◌%◌, ◌<◌, eqb, [], ◌∷◌, slice_index};
+ghost use Rattle.std.specs.Prelude.{◌≡◌, ◌/◌, ◌%◌, ◌<◌, eqb, [], ◌∷◌};
 ghost use Rattle.std.specs.Int.Bits.{bit_and, bit_or};
 ghost use Rattle.paper.specs.Answer.{accepted};
 ghost use Rattle.paper.specs.TroubleCode.{trouble_code, wire_size, all_codes, number_of, from_number, trouble_code_bytes};
-ghost use Rattle.paper.specs.TroubleCode.{mask_of, matches, test_failed, test_failed_this_operation_cycle, pending_dtc, confirmed_dtc};
+ghost use Rattle.paper.specs.TroubleCode.{matches, test_failed, test_failed_this_operation_cycle, pending_dtc, confirmed_dtc};
 ghost use Rattle.paper.specs.TroubleCode.{test_not_completed_since_last_clear, test_failed_since_last_clear};
 ghost use Rattle.paper.specs.TroubleCode.{test_not_completed_this_operation_cycle, warning_indicator_requested};
 ghost use Rattle.paper.specs.TroubleCode.{dtc_class, maintenance_only, check_at_next_halt, check_immediately, severity_valid};
 ghost use Rattle.paper.specs.TroubleCode.{group_of, format_of, reserved_record_number};
 ghost use Rattle.wire.specs.Writing.{Wrote};
 ghost use Rattle.dtc.specs.Status.{code_of, number_said, same_code, RecordRight, NextRight};
-ghost use Rattle.dtc.specs.Status.{MaskRight, RecordNumberRight};
+ghost use Rattle.dtc.specs.Status.{named, MaskRight, RecordNumberRight};
 ghost use Rattle.dtc.specs.Status.{group_byte, GroupOf, GroupRight, format_byte, FormatOf};
 
 use std::marker::PhantomData;
@@ -251,30 +251,6 @@ impl Mask<Status> {
 
     pub const WarningIndicatorRequested: DtcStatusMask = mask!(0x80);
 
-    // The bits of the eight, each the mask of the question that it is named after. Nobody calls this: its promise is the table.
-    // It answers them, since a clause cannot name a constant of one sort of mask.
-    fn constants() -> [u8; 8]
-        ensures test_failed { slice_index result 0 ≡ mask_of test_failed }
-        ensures test_failed_this_operation_cycle { slice_index result 1 ≡ mask_of test_failed_this_operation_cycle }
-        ensures pending_dtc { slice_index result 2 ≡ mask_of pending_dtc }
-        ensures confirmed_dtc { slice_index result 3 ≡ mask_of confirmed_dtc }
-        ensures test_not_completed_since_last_clear { slice_index result 4 ≡ mask_of test_not_completed_since_last_clear }
-        ensures test_failed_since_last_clear { slice_index result 5 ≡ mask_of test_failed_since_last_clear }
-        ensures test_not_completed_this_operation_cycle { slice_index result 6 ≡ mask_of test_not_completed_this_operation_cycle }
-        ensures warning_indicator_requested { slice_index result 7 ≡ mask_of warning_indicator_requested }
-    {
-        [
-            DtcStatusMask::TestFailed.bits,
-            DtcStatusMask::TestFailedThisOperationCycle.bits,
-            DtcStatusMask::PendingDtc.bits,
-            DtcStatusMask::ConfirmedDtc.bits,
-            DtcStatusMask::TestNotCompletedSinceLastClear.bits,
-            DtcStatusMask::TestFailedSinceLastClear.bits,
-            DtcStatusMask::TestNotCompletedThisOperationCycle.bits,
-            DtcStatusMask::WarningIndicatorRequested.bits,
-        ]
-    }
-
     // A question for each bit, by the name that the paper and the original have for it, here and of a severity: the test itself is `has`.
     // The last test failed.
     pub fn test_failed(self) -> bool
@@ -337,52 +313,79 @@ impl Mask<Status> {
     }
 }
 
-// The bit that each name stands for: these a clause can name, and a constant of one sort of mask it cannot.
-impl Status {
-    const TestFailed: u8 = 0x01;
+// What the paper says of each of the eight masks: it is the mask of the question that it is named after. Nobody uses the trait: it is the table.
+// A clause cannot name a constant of one sort of mask, and a constant of a trait is proved to be what its ghost says.
+trait StatusMasks {
+    ghost use Rattle.dtc.specs.declared.status.Mask.{Mask};
+    ghost use Rattle.dtc.specs.declared.status.Status.{Status};
 
-    const TestFailedThisOperationCycle: u8 = 0x02;
+    ghost TestFailed: { Mask Status };
 
-    const PendingDtc: u8 = 0x04;
+    const TestFailed: DtcStatusMask;
 
-    const ConfirmedDtc: u8 = 0x08;
+    ghost TestFailedThisOperationCycle: { Mask Status };
 
-    const TestNotCompletedSinceLastClear: u8 = 0x10;
+    const TestFailedThisOperationCycle: DtcStatusMask;
 
-    const TestFailedSinceLastClear: u8 = 0x20;
+    ghost PendingDtc: { Mask Status };
 
-    const TestNotCompletedThisOperationCycle: u8 = 0x40;
+    const PendingDtc: DtcStatusMask;
 
-    const WarningIndicatorRequested: u8 = 0x80;
+    ghost ConfirmedDtc: { Mask Status };
 
-    // What the paper says of each; and each mask is the bit of its name. Nobody calls this: its promise and what it proves are the table.
-    fn constants()
-        ensures test_failed { Status.TestFailed ≡ mask_of test_failed }
-        ensures test_failed_this_operation_cycle { Status.TestFailedThisOperationCycle ≡ mask_of test_failed_this_operation_cycle }
-        ensures pending_dtc { Status.PendingDtc ≡ mask_of pending_dtc }
-        ensures confirmed_dtc { Status.ConfirmedDtc ≡ mask_of confirmed_dtc }
-        ensures test_not_completed_since_last_clear { Status.TestNotCompletedSinceLastClear ≡ mask_of test_not_completed_since_last_clear }
-        ensures test_failed_since_last_clear { Status.TestFailedSinceLastClear ≡ mask_of test_failed_since_last_clear }
-        ensures test_not_completed_this_operation_cycle { Status.TestNotCompletedThisOperationCycle ≡ mask_of test_not_completed_this_operation_cycle }
-        ensures warning_indicator_requested { Status.WarningIndicatorRequested ≡ mask_of warning_indicator_requested }
-    {
-        prove!(DtcStatusMask::TestFailed.bits == Status::TestFailed);
-        prove!(
-            DtcStatusMask::TestFailedThisOperationCycle.bits == Status::TestFailedThisOperationCycle
-        );
-        prove!(DtcStatusMask::PendingDtc.bits == Status::PendingDtc);
-        prove!(DtcStatusMask::ConfirmedDtc.bits == Status::ConfirmedDtc);
-        prove!(
-            DtcStatusMask::TestNotCompletedSinceLastClear.bits
-                == Status::TestNotCompletedSinceLastClear
-        );
-        prove!(DtcStatusMask::TestFailedSinceLastClear.bits == Status::TestFailedSinceLastClear);
-        prove!(
-            DtcStatusMask::TestNotCompletedThisOperationCycle.bits
-                == Status::TestNotCompletedThisOperationCycle
-        );
-        prove!(DtcStatusMask::WarningIndicatorRequested.bits == Status::WarningIndicatorRequested);
-    }
+    const ConfirmedDtc: DtcStatusMask;
+
+    ghost TestNotCompletedSinceLastClear: { Mask Status };
+
+    const TestNotCompletedSinceLastClear: DtcStatusMask;
+
+    ghost TestFailedSinceLastClear: { Mask Status };
+
+    const TestFailedSinceLastClear: DtcStatusMask;
+
+    ghost TestNotCompletedThisOperationCycle: { Mask Status };
+
+    const TestNotCompletedThisOperationCycle: DtcStatusMask;
+
+    ghost WarningIndicatorRequested: { Mask Status };
+
+    const WarningIndicatorRequested: DtcStatusMask;
+}
+
+impl StatusMasks for DtcStatusMask {
+    ghost TestFailed = { named test_failed };
+
+    const TestFailed: DtcStatusMask = DtcStatusMask::TestFailed;
+
+    ghost TestFailedThisOperationCycle = { named test_failed_this_operation_cycle };
+
+    const TestFailedThisOperationCycle: DtcStatusMask = DtcStatusMask::TestFailedThisOperationCycle;
+
+    ghost PendingDtc = { named pending_dtc };
+
+    const PendingDtc: DtcStatusMask = DtcStatusMask::PendingDtc;
+
+    ghost ConfirmedDtc = { named confirmed_dtc };
+
+    const ConfirmedDtc: DtcStatusMask = DtcStatusMask::ConfirmedDtc;
+
+    ghost TestNotCompletedSinceLastClear = { named test_not_completed_since_last_clear };
+
+    const TestNotCompletedSinceLastClear: DtcStatusMask =
+        DtcStatusMask::TestNotCompletedSinceLastClear;
+
+    ghost TestFailedSinceLastClear = { named test_failed_since_last_clear };
+
+    const TestFailedSinceLastClear: DtcStatusMask = DtcStatusMask::TestFailedSinceLastClear;
+
+    ghost TestNotCompletedThisOperationCycle = { named test_not_completed_this_operation_cycle };
+
+    const TestNotCompletedThisOperationCycle: DtcStatusMask =
+        DtcStatusMask::TestNotCompletedThisOperationCycle;
+
+    ghost WarningIndicatorRequested = { named warning_indicator_requested };
+
+    const WarningIndicatorRequested: DtcStatusMask = DtcStatusMask::WarningIndicatorRequested;
 }
 
 // ---- The severity mask.
@@ -410,30 +413,6 @@ impl Mask<Severity> {
     pub const CheckAtNextHalt: DtcSeverityMask = mask!(0x40);
 
     pub const CheckImmediately: DtcSeverityMask = mask!(0x80);
-
-    // The bits of the eight, each the mask of the question that it is named after. Nobody calls this: its promise is the table.
-    // It answers them, since a clause cannot name a constant of one sort of mask.
-    fn constants() -> [u8; 8]
-        ensures dtc_class_0 { slice_index result 0 ≡ mask_of (dtc_class 0) }
-        ensures dtc_class_1 { slice_index result 1 ≡ mask_of (dtc_class 1) }
-        ensures dtc_class_2 { slice_index result 2 ≡ mask_of (dtc_class 2) }
-        ensures dtc_class_3 { slice_index result 3 ≡ mask_of (dtc_class 3) }
-        ensures dtc_class_4 { slice_index result 4 ≡ mask_of (dtc_class 4) }
-        ensures maintenance_only { slice_index result 5 ≡ mask_of maintenance_only }
-        ensures check_at_next_halt { slice_index result 6 ≡ mask_of check_at_next_halt }
-        ensures check_immediately { slice_index result 7 ≡ mask_of check_immediately }
-    {
-        [
-            DtcSeverityMask::DtcClass0.bits,
-            DtcSeverityMask::DtcClass1.bits,
-            DtcSeverityMask::DtcClass2.bits,
-            DtcSeverityMask::DtcClass3.bits,
-            DtcSeverityMask::DtcClass4.bits,
-            DtcSeverityMask::MaintenanceOnly.bits,
-            DtcSeverityMask::CheckAtNextHalt.bits,
-            DtcSeverityMask::CheckImmediately.bits,
-        ]
-    }
 
     pub fn dtc_class_0(self) -> bool
         ensures { result ≡ dtc_class 0 self.bits }
@@ -492,44 +471,76 @@ impl Mask<Severity> {
     }
 }
 
-// The bit that each name stands for: these a clause can name, and a constant of one sort of mask it cannot.
-impl Severity {
-    const DtcClass0: u8 = 0x01;
+// What the paper says of each of the eight, as of those of a status.
+trait SeverityMasks {
+    ghost use Rattle.dtc.specs.declared.status.Mask.{Mask};
+    ghost use Rattle.dtc.specs.declared.status.Severity.{Severity};
 
-    const DtcClass1: u8 = 0x02;
+    ghost DtcClass0: { Mask Severity };
 
-    const DtcClass2: u8 = 0x04;
+    const DtcClass0: DtcSeverityMask;
 
-    const DtcClass3: u8 = 0x08;
+    ghost DtcClass1: { Mask Severity };
 
-    const DtcClass4: u8 = 0x10;
+    const DtcClass1: DtcSeverityMask;
 
-    const MaintenanceOnly: u8 = 0x20;
+    ghost DtcClass2: { Mask Severity };
 
-    const CheckAtNextHalt: u8 = 0x40;
+    const DtcClass2: DtcSeverityMask;
 
-    const CheckImmediately: u8 = 0x80;
+    ghost DtcClass3: { Mask Severity };
 
-    // What the paper says of each; and each mask is the bit of its name. Nobody calls this: its promise and what it proves are the table.
-    fn constants()
-        ensures dtc_class_0 { Severity.DtcClass0 ≡ mask_of (dtc_class 0) }
-        ensures dtc_class_1 { Severity.DtcClass1 ≡ mask_of (dtc_class 1) }
-        ensures dtc_class_2 { Severity.DtcClass2 ≡ mask_of (dtc_class 2) }
-        ensures dtc_class_3 { Severity.DtcClass3 ≡ mask_of (dtc_class 3) }
-        ensures dtc_class_4 { Severity.DtcClass4 ≡ mask_of (dtc_class 4) }
-        ensures maintenance_only { Severity.MaintenanceOnly ≡ mask_of maintenance_only }
-        ensures check_at_next_halt { Severity.CheckAtNextHalt ≡ mask_of check_at_next_halt }
-        ensures check_immediately { Severity.CheckImmediately ≡ mask_of check_immediately }
-    {
-        prove!(DtcSeverityMask::DtcClass0.bits == Severity::DtcClass0);
-        prove!(DtcSeverityMask::DtcClass1.bits == Severity::DtcClass1);
-        prove!(DtcSeverityMask::DtcClass2.bits == Severity::DtcClass2);
-        prove!(DtcSeverityMask::DtcClass3.bits == Severity::DtcClass3);
-        prove!(DtcSeverityMask::DtcClass4.bits == Severity::DtcClass4);
-        prove!(DtcSeverityMask::MaintenanceOnly.bits == Severity::MaintenanceOnly);
-        prove!(DtcSeverityMask::CheckAtNextHalt.bits == Severity::CheckAtNextHalt);
-        prove!(DtcSeverityMask::CheckImmediately.bits == Severity::CheckImmediately);
-    }
+    const DtcClass3: DtcSeverityMask;
+
+    ghost DtcClass4: { Mask Severity };
+
+    const DtcClass4: DtcSeverityMask;
+
+    ghost MaintenanceOnly: { Mask Severity };
+
+    const MaintenanceOnly: DtcSeverityMask;
+
+    ghost CheckAtNextHalt: { Mask Severity };
+
+    const CheckAtNextHalt: DtcSeverityMask;
+
+    ghost CheckImmediately: { Mask Severity };
+
+    const CheckImmediately: DtcSeverityMask;
+}
+
+impl SeverityMasks for DtcSeverityMask {
+    ghost DtcClass0 = { named (dtc_class 0) };
+
+    const DtcClass0: DtcSeverityMask = DtcSeverityMask::DtcClass0;
+
+    ghost DtcClass1 = { named (dtc_class 1) };
+
+    const DtcClass1: DtcSeverityMask = DtcSeverityMask::DtcClass1;
+
+    ghost DtcClass2 = { named (dtc_class 2) };
+
+    const DtcClass2: DtcSeverityMask = DtcSeverityMask::DtcClass2;
+
+    ghost DtcClass3 = { named (dtc_class 3) };
+
+    const DtcClass3: DtcSeverityMask = DtcSeverityMask::DtcClass3;
+
+    ghost DtcClass4 = { named (dtc_class 4) };
+
+    const DtcClass4: DtcSeverityMask = DtcSeverityMask::DtcClass4;
+
+    ghost MaintenanceOnly = { named maintenance_only };
+
+    const MaintenanceOnly: DtcSeverityMask = DtcSeverityMask::MaintenanceOnly;
+
+    ghost CheckAtNextHalt = { named check_at_next_halt };
+
+    const CheckAtNextHalt: DtcSeverityMask = DtcSeverityMask::CheckAtNextHalt;
+
+    ghost CheckImmediately = { named check_immediately };
+
+    const CheckImmediately: DtcSeverityMask = DtcSeverityMask::CheckImmediately;
 }
 
 // ---- The functional group.
