@@ -91,7 +91,7 @@ class Functions:
         return None if None in found else frozenset().union(*found)
 
     def touched_by(self, name):
-        """The functions that a change of one part touches: of a body its own, of a constant those that mention it, of a contract that nobody reads its own."""
+        """The functions that a change of one part touches: of a body its own, of a constant those that mention it, of a contract that nobody reads its own; None where others may read it."""
         if name in self.names:
             return None if self.is_opened(name) else {name}
         if name is None:
@@ -101,7 +101,9 @@ class Functions:
         word = re.compile(rf"(?<!const )\b{name}\b")
         if any(word.search(text) for text in self.laws.values()):
             return None
-        return self.joined({part.name for part in self.all_parts() if word.search(re.sub(r"//.*|^(?:pub )?use .*", "", part.text, flags=re.M))}) or None
+        mentioning = {part.name for part in self.all_parts() if word.search(re.sub(r"//.*|^(?:pub )?use .*", "", part.text, flags=re.M))}
+        # a constant of a trait that has this name is read by whoever reads the trait
+        return None if name in mentioning else self.joined(mentioning) or None
 
     def is_read(self, function):
         """Whether a contract is read: by a function that calls this one (one of a trait is called by other words too, as `into` and `?`), or by a file of proofs/ that is not its own."""
